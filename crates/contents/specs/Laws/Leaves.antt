@@ -1,0 +1,61 @@
+-- A content and its section: each is made of the other. Assumes nothing.
+use mathlib.Core.Path.{_≡_, refl, sym, ap, _∙_}
+use Prim.Native.Nat.{ℕ, _+_, _≤_}
+use native.Mathlib.Omega.{arith}
+use mathlib.Core.Bool.{Bool, true, false, _&&_}
+use mathlib.Core.Option.{Option, none, some}
+use mathlib.Core.List.{List, [], _∷_, _++_}
+use lib.ListN.{length, drop, length-drop}
+use lib.Dec.{T, leb, eqb, eqb→eq}
+use lib.IntN.{ℤ}
+use Rattle.terms.specs.Numbers.{bad-integer, not-allowed, bad-bits}
+use Rattle.terms.specs.Answer.{Res, good}
+use Rattle.terms.specs.Laws.Answer.{clash, and-l, and-r}
+use Rattle.contents.specs.Content.{Check, fine, wrong, tag, ask, passes, judge}
+use Rattle.contents.specs.Integer.{shortest, wellFormed, value, widest, stretch, unstretch}
+use Rattle.contents.specs.Rules.{integerRule, bitsRule, booleanRule}
+use Rattle.contents.specs.Laws.Integer.{stretch-there}
+
+-- ---- what a rule went through
+
+pub by-ask {ℓ} : {X : Type ℓ} (t : Bool) (n : ℕ) (k : Check) → ask t n k ≡ fine → (T t → k ≡ fine → X) → X
+unfolding ask
+by-ask true n k h f = f tt h
+by-ask false n k h f = let z : _≡_ {A = ℕ} 0 1 = cc in let y : ⊥ = omega arith in absurd y
+
+pub by-judge {ℓ} : {A : Type 0} {X : Type ℓ} (k : Check) (p s : ℕ) (r : Res A) (a : A) → judge k p s r ≡ good a → (k ≡ fine → r ≡ good a → X) → X
+unfolding judge
+by-judge fine p s r a e f = f refl e
+by-judge (wrong n x) p s r a e f = clash e
+
+pub passed : (k : Check) → T (passes k) → k ≡ fine
+unfolding passes
+passed fine h = refl
+passed (wrong n x) h = absurd h
+
+-- ---- a section that is the content
+
+pub plain-back : (x c : List ℕ) → some x ≡ some c → c ≡ x
+plain-back x c h = cc
+
+pub plain-near : (c : List ℕ) → length c ≤ 8 + length c
+plain-near c = omega arith
+
+-- ---- an integer's
+
+pub integer-there : (p : ℤ → Bool) (c : List ℕ) → integerRule p c ≡ fine → unstretch (stretch c) ≡ some c
+unfolding integerRule wellFormed
+integer-there p c h = by-ask _ _ _ h λ t e. stretch-there c (and-l (shortest c) (leb (length c) widest) t) (and-r (shortest c) (leb (length c) widest) t)
+
+-- ---- a bit string's
+
+pub bits-there : (c : List ℕ) → bitsRule c ≡ fine → some (0x00 ∷ drop 1 c) ≡ some c
+unfolding bitsRule
+bits-there [] h = let z : _≡_ {A = ℕ} 0 1 = cc in let y : ⊥ = omega arith in absurd y
+bits-there (a ∷ c) h = by-ask _ _ _ h λ e g. let q : a ≡ 0 = eqb→eq a 0 e in rw q
+
+pub bits-back : (x c : List ℕ) → some (0x00 ∷ x) ≡ some c → drop 1 c ≡ x
+bits-back x c h = let q : 0x00 ∷ x ≡ c = cc in ap (drop 1) (sym q)
+
+pub bits-near : (c : List ℕ) → length (drop 1 c) ≤ 8 + length c
+bits-near c = omega (arith, length-drop 1 c)

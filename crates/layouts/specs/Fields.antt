@@ -1,0 +1,92 @@
+-- The fields of a record, each under its name: "a part of the lent record, .. the bytes its section has, or the signed bytes;
+-- in a list by index". Name, place and bytes stand together here and are asked for here. Assumes nothing.
+use mathlib.Core.Logic.{_⊎_, inl, inr}
+use Prim.Native.Nat.{ℕ, suc, _+_}
+use mathlib.Core.Bool.{Bool, true, false, _&&_}
+use mathlib.Core.Option.{Option, none, some}
+use mathlib.Core.List.{List, [], _∷_, _++_}
+use lib.ListN.{length, drop}
+use lib.Dec.{eqb}
+use Rattle.terms.specs.declared.Field.{Field}
+use Rattle.terms.specs.Names.{sameName}
+use Rattle.terms.specs.Answer.{pick}
+use Rattle.heads.specs.Head.{tlv, before}
+use Rattle.contents.specs.Leaves.{boolean}
+use Rattle.layouts.specs.Layout.{Item, leaf, node, list, wrap, Run, end, _▸_, Member, known, one, maybe, flag, choose, Value, Values, Part, each, either, encode, encodes, encodePart}
+
+-- a field: its name, its index in a list, the offset of its bytes in the record, and its bytes
+pub record Entry : Type 0 where
+  pub name : Field
+  pub index : ℕ
+  pub place : ℕ
+  pub bytes : List ℕ
+
+abbrev pub entry : Field → ℕ → ℕ → List ℕ → Entry
+entry f k b x = record { name = f; index = k; place = b; bytes = x }
+
+-- the items of a list, from index `k` on
+unfoldable pub eachFields : {A : Type 0} → (ℕ → A → ℕ → List Entry) → (A → List ℕ) → ℕ → List A → ℕ → List Entry
+eachFields f e k [] b = []
+eachFields f e k (x ∷ xs) b = f k x b ++ eachFields f e (suc k) xs (b + length (e x))
+
+unfoldable pub optionFields : {A : Type 0} → (A → ℕ → List Entry) → Option A → ℕ → List Entry
+optionFields f none b = []
+optionFields f (some a) b = f a b
+
+unfoldable pub eitherFields : {A B : Type 0} → (A → ℕ → List Entry) → (B → ℕ → List Entry) → A ⊎ B → ℕ → List Entry
+eitherFields f g (inl a) b = f a b
+eitherFields f g (inr c) b = g c b
+
+-- a BOOLEAN that is there
+unfoldable pub flagFields : Field → ℕ → Bool → ℕ → List Entry
+flagFields f k true b = entry f k (b + before 1) (0xFF ∷ []) ∷ []
+flagFields f k false b = []
+
+-- an item's fields, where it stands at `b` under the name `f` and the index `k`; of an item with parts the whole item is one
+unfoldable mutual
+  pub itemFields : (i : Item) → Field → ℕ → Value i → ℕ → List Entry
+  itemFields (leaf l) f k c b = entry f k (b + before (length c) + l .hidden) (drop (l .hidden) c) ∷ []
+  itemFields (node t r) f k v b = entry f k b (tlv t (encodes r v)) ∷ runFields r k v (b + before (length (encodes r v)))
+  itemFields (list t e n g i) f k vs b =
+      entry f k b (tlv t (each (λ v. encode i v) vs))
+      ∷ eachFields (λ j v p. itemFields i g j v p) (λ v. encode i v) 0 vs (b + before (length (each (λ v. encode i v) vs)))
+  itemFields (wrap t i) f k v b = itemFields i f k v (b + before (length (encode i v)))
+
+  pub runFields : (r : Run) → ℕ → Values r → ℕ → List Entry
+  runFields end k v b = []
+  runFields (m ▸ r) k v b = partFields m k (v .0) b ++ runFields r k (v .1) (b + length (encodePart m (v .0)))
+
+  pub partFields : (m : Member) → ℕ → Part m → ℕ → List Entry
+  partFields (known l c n) k v b = []
+  partFields (one f i) k v b = itemFields i f k v b
+  partFields (maybe f i) k v b = optionFields (λ x p. itemFields i f k x p) v b
+  partFields (flag f) k v b = flagFields f k v b
+  partFields (choose f l t g i j) k v b =
+      entry f k (b + before (length (v .0)) + l .hidden) (drop (l .hidden) (v .0))
+      ∷ eitherFields (λ x p. itemFields i g k x p) (λ x p. itemFields j g k x p) (v .1) (b + length (tlv (l .tag) (v .0)))
+
+-- the fields of a whole record
+unfoldable pub fields : (r : Run) → Values r → List Entry
+fields r v = runFields r 0 v (before (length (encodes r v)))
+
+-- ---- asking
+
+unfoldable pub isField : Field → ℕ → Entry → Bool
+isField f k x = sameName f (x .name) && eqb k (x .index)
+
+-- the first that passes
+unfoldable pub first : (Entry → Bool) → List Entry → Option Entry
+first p [] = none
+first p (x ∷ xs) = pick (p x) (some x) (first p xs)
+
+unfoldable pub count : (Entry → Bool) → List Entry → ℕ
+count p [] = 0
+count p (x ∷ xs) = pick (p x) (suc (count p xs)) (count p xs)
+
+unfoldable pub bytesIn : Option Entry → List ℕ
+bytesIn none = []
+bytesIn (some x) = x .bytes
+
+unfoldable pub isThere : Option Entry → Bool
+isThere none = false
+isThere (some x) = true

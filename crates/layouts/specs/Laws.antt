@@ -1,0 +1,3 @@
+pub mod Reading
+pub mod Sheet
+pub mod Whole

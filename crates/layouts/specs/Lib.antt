@@ -1,0 +1,6 @@
+pub mod Layout
+pub mod Reading
+pub mod Sheet
+pub mod Whole
+pub mod Fields
+pub mod Laws

@@ -1,0 +1,74 @@
+-- Reading by a layout: "Items are read left to right, outer before inner; the first fault answers." Assumes nothing.
+-- A window is the bytes up to the encloser's end; its offset counts from the start of the input.
+use mathlib.Core.Logic.{_⊎_, inl, inr}
+use Prim.Native.Nat.{ℕ, suc, zero, _+_}
+use mathlib.Core.Bool.{Bool, true, false}
+use mathlib.Core.Option.{Option, none, some}
+use mathlib.Core.List.{List, [], _∷_}
+use lib.ListN.{length}
+use lib.Dec.{eqb}
+use Rattle.terms.specs.Numbers.{left-over, no-item, too-many-items}
+use Rattle.terms.specs.Answer.{Res, good, fault, Got, pick, bind, need, enough, same}
+use Rattle.heads.specs.Head.{Cut, head}
+use Rattle.contents.specs.Content.{Leaf, judge}
+use Rattle.contents.specs.Leaves.{boolean}
+use Rattle.layouts.specs.Layout.{Item, leaf, node, list, wrap, Run, end, _▸_, Member, known, one, maybe, flag, choose, tagOf, Value, Values, Part}
+
+-- where what follows an item starts
+abbrev pub next : Cut → ℕ
+next c = c .2 + length (c .0)
+
+-- a primitive item: its head, then its own rule
+unfoldable pub readLeaf : Leaf → List ℕ → ℕ → Res Cut
+readLeaf l w b = bind (head (l .tag) w b) λ c. judge (l .rule (c .0)) b (c .2) (good c)
+
+-- whether a window begins with a tag
+unfoldable pub begins : ℕ → List ℕ → Bool
+begins t [] = false
+begins t (x ∷ w) = eqb x t
+
+-- "bytes left after the last item; place: the first"
+unfoldable pub finish : List ℕ → ℕ → Res (Unit {0})
+finish [] b = good tt
+finish (x ∷ w) b = fault left-over b
+
+-- items to the end of the window, at most `n`: "a 65th item in a list, of any tag; place: its tag"
+unfoldable pub many : {A : Type 0} → (List ℕ → ℕ → Res (Got A)) → ℕ → List ℕ → ℕ → Res (List A)
+many f zero [] b = good []
+many f zero (x ∷ w) b = fault too-many-items b
+many f (suc n) [] b = good []
+many f (suc n) (x ∷ w) b = bind (f (x ∷ w) b) λ a. bind (many f n (a .1) (a .2)) λ xs. good (a .0 ∷ xs)
+
+-- "An optional item is absent if nothing is left or another tag stands there"
+unfoldable pub readOption : {A : Type 0} → ℕ → (List ℕ → ℕ → Res (Got A)) → List ℕ → ℕ → Res (Got (Option A))
+readOption t f w b = pick (begins t w) (bind (f w b) λ a. good (some (a .0), a .1, a .2)) (good (none, w, b))
+
+unfoldable pub readFlag : List ℕ → ℕ → Res (Got Bool)
+readFlag w b = pick (begins (boolean .tag) w) (bind (readLeaf boolean w b) λ c. good (true, c .1, next c)) (good (false, w, b))
+
+unfoldable pub readEither : {A B : Type 0} → Bool → (List ℕ → ℕ → Res (Got A)) → (List ℕ → ℕ → Res (Got B)) → List ℕ → ℕ → Res (Got (A ⊎ B))
+readEither t f g w b = pick t (bind (f w b) λ a. good (inl (a .0), a .1, a .2)) (bind (g w b) λ a. good (inr (a .0), a .1, a .2))
+
+unfoldable mutual
+  pub read : (i : Item) → List ℕ → ℕ → Res (Got (Value i))
+  read (leaf l) w b = bind (readLeaf l w b) λ c. good (c .0, c .1, next c)
+  read (node t r) w b = bind (head t w b) λ c. bind (reads r (c .0) (c .2)) λ v. good (v, c .1, next c)
+  read (list t e n f i) w b =
+      bind (head t w b) λ c.
+      need (enough e (c .0)) no-item b
+      (bind (many (λ x p. read i x p) n (c .0) (c .2)) λ vs. good (vs, c .1, next c))
+  read (wrap t i) w b = bind (head t w b) λ c. bind (read i (c .0) (c .2)) λ a. bind (finish (a .1) (a .2)) λ u. good (a .0, c .1, next c)
+
+  pub reads : (r : Run) → List ℕ → ℕ → Res (Values r)
+  reads end w b = finish w b
+  reads (m ▸ r) w b = bind (readPart m w b) λ a. bind (reads r (a .1) (a .2)) λ v. good (a .0, v)
+
+  pub readPart : (m : Member) → List ℕ → ℕ → Res (Got (Part m))
+  readPart (known l k n) w b = bind (readLeaf l w b) λ c. need (same (c .0) k) n b (good (tt, c .1, next c))
+  readPart (one f i) w b = read i w b
+  readPart (maybe f i) w b = readOption (tagOf i) (λ x p. read i x p) w b
+  readPart (flag f) w b = readFlag w b
+  readPart (choose f l t g i j) w b =
+      bind (readLeaf l w b) λ c.
+      bind (readEither (t (c .0)) (λ x p. read i x p) (λ x p. read j x p) (c .1) (next c)) λ a.
+      good ((c .0, a .0), a .1, a .2)

@@ -1,0 +1,72 @@
+-- An answer or a refusal, and how two readings are joined. Assumes nothing.
+use Prim.Native.Nat.{ℕ}
+use mathlib.Core.Bool.{Bool, true, false, _&&_}
+use mathlib.Core.Option.{Option, none, some}
+use mathlib.Core.List.{List, [], _∷_}
+use lib.Dec.{eqb}
+use lib.IntN.{ℤ, pos}
+use Rattle.terms.specs.Numbers.{done}
+
+-- what was read, or the refusal's number and place
+pub data Res (A : Type 0) : Type 0 where
+  good : A → Res A
+  fault : ℕ → ℕ → Res A
+
+-- an item read at the start of a window: its value, what stands after it, and the offset of that
+abbrev pub Got : Type 0 → Type 0
+Got A = A × List ℕ × ℕ
+
+-- one of two, by a test
+unfoldable pub pick {ℓ} : {A : Type ℓ} → Bool → A → A → A
+pick true a b = a
+pick false a b = b
+
+-- go on with what was read, or hand the refusal on
+unfoldable pub bind : {A B : Type 0} → Res A → (A → Res B) → Res B
+bind (good a) k = k a
+bind (fault n p) k = fault n p
+
+-- go on if the test holds, else refuse with a number and a place
+unfoldable pub need : {A : Type 0} → Bool → ℕ → ℕ → Res A → Res A
+need true n p r = r
+need false n p r = fault n p
+
+-- go on with what is there, else refuse
+unfoldable pub have : {A : Type 0} → Option A → ℕ → ℕ → Res A
+have (some a) n p = good a
+have none n p = fault n p
+
+-- every member of a list passes
+unfoldable pub every : {A : Type 0} → (A → Bool) → List A → Bool
+every p [] = true
+every p (x ∷ xs) = p x && every p xs
+
+-- some members where some are needed; `true`: there may be none
+unfoldable pub enough : {A : Type 0} → Bool → List A → Bool
+enough true xs = true
+enough false [] = false
+enough false (a ∷ xs) = true
+
+-- two lists of numbers are the same
+unfoldable pub same : List ℕ → List ℕ → Bool
+same [] [] = true
+same [] (y ∷ ys) = false
+same (x ∷ xs) [] = false
+same (x ∷ xs) (y ∷ ys) = eqb x y && same xs ys
+
+-- An answer in the paper's terms: its number, 0 where nothing is refused, and its values (a place, a length, a count, an integer).
+-- Each enum that a function answers has a definition `told` into this type.
+pub record Told : Type 0 where
+  pub number : ℕ
+  pub values : List ℤ
+
+abbrev pub told-one : ℕ → ℕ → Told
+told-one n x = record { number = n; values = pos x ∷ [] }
+
+abbrev pub told-none : ℕ → Told
+told-none n = record { number = n; values = [] }
+
+-- a reading whose value is told as a number
+abbrev pub answered : {A : Type 0} → (A → ℕ) → Res A → Told
+answered f (good a) = told-one done (f a)
+answered f (fault n p) = told-one n p

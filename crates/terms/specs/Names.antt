@@ -1,0 +1,56 @@
+-- The names of a record's fields: which are the same. Assumes nothing.
+use Prim.Native.Nat.{ℕ}
+use mathlib.Core.Bool.{Bool}
+use lib.Dec.{eqb}
+use Rattle.terms.specs.declared.Field.{Field}
+use Rattle.terms.specs.declared.Field.the-variants.{SealInformation, Header, Vendor, SealId, Property, SealType, SealName, ListKind, CertificateList, ListedCertificate, ListedEntry, ListedName, ListedDigest, Created, Start, End, Picture, PictureType, PictureData, Width, Height, SealCustomData, SealCustomItem, SealCustomId, SealCustomCritical, SealCustomValue, MakerCertificate, SealAlgorithm, SealSignedValue, SignedPart, Seal, SigningTime, OriginalDigest, PropertyText, SignedCustomData, SignedCustomItem, SignedCustomId, SignedCustomCritical, SignedCustomValue, SignerCertificate, SignatureAlgorithm, SignatureValue, Stamp}
+
+-- a number for each name, in record order
+unfoldable pub code : Field → ℕ
+code SealInformation = 0
+code Header = 1
+code Vendor = 2
+code SealId = 3
+code Property = 4
+code SealType = 5
+code SealName = 6
+code ListKind = 7
+code CertificateList = 8
+code ListedCertificate = 9
+code ListedEntry = 10
+code ListedName = 11
+code ListedDigest = 12
+code Created = 13
+code Start = 14
+code End = 15
+code Picture = 16
+code PictureType = 17
+code PictureData = 18
+code Width = 19
+code Height = 20
+code SealCustomData = 21
+code SealCustomItem = 22
+code SealCustomId = 23
+code SealCustomCritical = 24
+code SealCustomValue = 25
+code MakerCertificate = 26
+code SealAlgorithm = 27
+code SealSignedValue = 28
+code SignedPart = 29
+code Seal = 30
+code SigningTime = 31
+code OriginalDigest = 32
+code PropertyText = 33
+code SignedCustomData = 34
+code SignedCustomItem = 35
+code SignedCustomId = 36
+code SignedCustomCritical = 37
+code SignedCustomValue = 38
+code SignerCertificate = 39
+code SignatureAlgorithm = 40
+code SignatureValue = 41
+code Stamp = 42
+
+unfoldable pub sameName : Field → Field → Bool
+unfolding code
+sameName f g = eqb (code f) (code g)
