@@ -1,3 +1,5 @@
 pub mod Reading
 pub mod Sheet
 pub mod Whole
+pub mod Fields
+pub mod Scan

@@ -3,4 +3,5 @@ pub mod Reading
 pub mod Sheet
 pub mod Whole
 pub mod Fields
+pub mod Scan
 pub mod Laws

@@ -1,0 +1,142 @@
+-- Each field's bytes stand at its place in the record, and are the bytes that its section has: for every layout. Assumes nothing.
+use mathlib.Core.Path.{_≡_, refl, sym, ap, ap₂, _∙_}
+use mathlib.Core.Logic.{_⊎_, inl, inr}
+use Prim.Native.Nat.{ℕ, suc, zero, _+_, _≤_, _<_}
+use native.Mathlib.Omega.{arith}
+use mathlib.Core.Bool.{Bool, true, false}
+use mathlib.Core.Option.{Option, none, some}
+use mathlib.Core.List.{List, [], _∷_, _++_, append-assoc, append-nil}
+use lib.ListN.{length, take, drop, length-append, drop-of-length-le}
+use lib.Seq.{take-at, drop-at, drop-drop, drop-append-le}
+use lib.Dec.{T, leb, leb→le, nleb→lt}
+use Rattle.terms.specs.declared.Field.{Field}
+use Rattle.terms.specs.Answer.{pick}
+use Rattle.terms.specs.Laws.Answer.{test, pick-yes, pick-no}
+use Rattle.heads.specs.Head.{tlv, octets, before}
+use Rattle.heads.specs.Laws.Head.{length-tlv}
+use Rattle.contents.specs.Content.{Leaf, Check, fine}
+use Rattle.contents.specs.Leaves.{boolean}
+use Rattle.layouts.specs.Layout.{Item, leaf, node, list, wrap, Run, end, _▸_, Member, known, one, maybe, flag, choose, Value, Values, Part, All, each, option, either, critical, encode, encodes, encodePart}
+use Rattle.layouts.specs.Fields.{Entry, entry, eachFields, optionFields, eitherFields, flagFields, itemFields, runFields, partFields, fields, first}
+use Rattle.layouts.specs.Whole.{sequence, recordOf}
+
+-- the field's bytes stand at its place in the record
+abbrev pub Stands : List ℕ → Entry → Type 0
+Stands s x = take (length (x .bytes)) (drop (x .place) s) ≡ x .bytes
+
+-- bytes that stand after others
+stands-after : (s p x z : List ℕ) (b : ℕ) → s ≡ p ++ (x ++ z) → length p ≡ b → take (length x) (drop b s) ≡ x
+stands-after s p x z b e h = ap (λ (y : List ℕ). take (length x) (drop b y)) e ∙ ap (take (length x)) (drop-at p (x ++ z) b h) ∙ take-at x z (length x) refl
+
+all-append : {A : Type 0} (P : A → Type 0) (xs ys : List A) → All P xs → All P ys → All P (xs ++ ys)
+all-append P [] ys h k = k
+all-append P (x ∷ xs) ys h k = (h .0, all-append P xs ys (h .1) k)
+
+-- `e a` stands in `s` at `b`, with its fields
+abbrev Placed : {A : Type 0} → List ℕ → (A → List ℕ) → (A → ℕ → List Entry) → Type 0
+Placed {A} s e f = (a : A) (p z : List ℕ) → s ≡ p ++ (e a ++ z) → All (Stands s) (f a (length p))
+
+-- inside a tag: the content stands after the head
+inside : (s p z : List ℕ) (t : ℕ) (c : List ℕ) → s ≡ p ++ (tlv t c ++ z) → (s ≡ (p ++ (t ∷ octets (length c))) ++ (c ++ z)) × (length (p ++ (t ∷ octets (length c))) ≡ length p + before (length c))
+unfolding tlv
+inside s p z t c e =
+    (e ∙ ap (λ (y : List ℕ). p ++ (t ∷ y)) (append-assoc (octets (length c)) c z) ∙ sym (append-assoc p (t ∷ octets (length c)) (c ++ z)),
+    length-append p (t ∷ octets (length c)) ∙ omega arith)
+
+-- past a part: the next stands after it
+past : (s p x y z : List ℕ) → s ≡ p ++ ((x ++ y) ++ z) → (s ≡ p ++ (x ++ (y ++ z))) × (s ≡ (p ++ x) ++ (y ++ z)) × (length (p ++ x) ≡ length p + length x)
+past s p x y z e =
+    let q : s ≡ p ++ (x ++ (y ++ z)) = e ∙ ap (λ (w : List ℕ). p ++ w) (append-assoc x y z) in
+    (q, q ∙ sym (append-assoc p x (y ++ z)), length-append p x)
+
+-- a content past what is never handed out
+leaf-stands : (s p z : List ℕ) (t h : ℕ) (c : List ℕ) → s ≡ p ++ (tlv t c ++ z) → take (length (drop h c)) (drop (length p + before (length c) + h) s) ≡ drop h c
+leaf-stands s p z t h c e =
+    let n = inside s p z t c e in
+    let d : drop (length p + before (length c)) s ≡ c ++ z = ap (drop (length p + before (length c))) (n .0) ∙ drop-at (p ++ (t ∷ octets (length c))) (c ++ z) _ (n .1) in
+    let d′ : drop (length p + before (length c) + h) s ≡ drop h (c ++ z) = sym (drop-drop h (length p + before (length c)) s) ∙ ap (drop h) d in
+    rw d′ (test (leb h (length c))
+    (λ k. rw (drop-append-le h c z (leb→le h (length c) k)) (take-at (drop h c) z (length (drop h c)) refl))
+    (λ k. let g : length c < h = nleb→lt h (length c) k in rw (drop-of-length-le c {i = h} (omega arith)) refl))
+
+module _ {A : Type 0} (s : List ℕ) (e : A → List ℕ) where
+  each-placed : (f : ℕ → A → ℕ → List Entry) → ((j : ℕ) → Placed s e (λ a b. f j a b)) → (k : ℕ) → Placed s (each e) (λ xs b. eachFields f e k xs b)
+  unfolding each eachFields
+  each-placed f h k [] p z q = tt
+  each-placed f h k (x ∷ xs) p z q =
+      let n = past s p (e x) (each e xs) z q in
+      let r = each-placed f h (suc k) xs (p ++ e x) z (n .1) in
+      all-append (Stands s) (f k x (length p)) _ (h k x p (each e xs ++ z) (n .0)) (rw (n .2) at r)
+
+  option-placed : (f : A → ℕ → List Entry) → Placed s e f → Placed s (option e) (λ o b. optionFields f o b)
+  unfolding option optionFields
+  option-placed f h none p z q = tt
+  option-placed f h (some a) p z q = h a p z q
+
+either-placed : {A B : Type 0} (s : List ℕ) (e : A → List ℕ) (d : B → List ℕ) (f : A → ℕ → List Entry) (g : B → ℕ → List Entry) → Placed s e f → Placed s d g
+    → Placed s (either e d) (λ x b. eitherFields f g x b)
+unfolding either eitherFields
+either-placed s e d f g h k (inl a) p z q = h a p z q
+either-placed s e d f g h k (inr b) p z q = k b p z q
+
+flag-placed : (s : List ℕ) (f : Field) (k : ℕ) → Placed s critical (λ v b. flagFields f k v b)
+unfolding critical flagFields
+flag-placed s f k true p z q =
+    let m : length p + before 1 ≡ length p + before 1 + 0 = omega arith in
+    (rw m (leaf-stands s p z (boolean .tag) 0 (0xFF ∷ []) q), tt)
+flag-placed s f k false p z q = tt
+
+module _ (s : List ℕ) where
+  mutual
+    unfolding encode itemFields
+
+    item-placed : (i : Item) (f : Field) (k : ℕ) → Placed s (λ v. encode i v) (λ v b. itemFields i f k v b)
+    item-placed (leaf l) f k v p z q = (leaf-stands s p z (l .tag) (l .hidden) v q, tt)
+    item-placed (node t r) f k v p z q =
+        let n = inside s p z t (encodes r v) q in
+        (stands-after s p (tlv t (encodes r v)) z (length p) q refl, rw (n .1) at (run-placed r k v (p ++ (t ∷ octets (length (encodes r v)))) z (n .0)))
+    item-placed (list t e m g i) f k vs p z q =
+        let c : List ℕ = each (λ v. encode i v) vs in
+        let n = inside s p z t c q in
+        (stands-after s p (tlv t c) z (length p) q refl,
+        rw (n .1) at (each-placed s (λ v. encode i v) (λ j v b. itemFields i g j v b) (λ j v p z q. item-placed i g j v p z q) 0 vs (p ++ (t ∷ octets (length c))) z (n .0)))
+    item-placed (wrap t i) f k v p z q =
+        let n = inside s p z t (encode i v) q in
+        rw (n .1) at (item-placed i f k v (p ++ (t ∷ octets (length (encode i v)))) z (n .0))
+
+    run-placed : (r : Run) (k : ℕ) → Placed s (λ v. encodes r v) (λ v b. runFields r k v b)
+    run-placed end k v p z q = tt
+    run-placed (m ▸ r) k v p z q =
+        let n = past s p (encodePart m (v .0)) (encodes r (v .1)) z q in
+        let u = run-placed r k (v .1) (p ++ encodePart m (v .0)) z (n .1) in
+        all-append (Stands s) (partFields m k (v .0) (length p)) _ (part-placed m k (v .0) p (encodes r (v .1) ++ z) (n .0)) (rw (n .2) at u)
+
+    part-placed : (m : Member) (k : ℕ) → Placed s (λ v. encodePart m v) (λ v b. partFields m k v b)
+    part-placed (known l c n) k v p z q = tt
+    part-placed (one f i) k v p z q = item-placed i f k v p z q
+    part-placed (maybe f i) k v p z q = option-placed s (λ x. encode i x) (λ x b. itemFields i f k x b) (λ x p z q. item-placed i f k x p z q) v p z q
+    part-placed (flag f) k v p z q = flag-placed s f k v p z q
+    part-placed (choose f l t g i j) k v p z q =
+        let x : List ℕ = tlv (l .tag) (v .0) in
+        let y : List ℕ = either (λ x. encode i x) (λ x. encode j x) (v .1) in
+        let n = past s p x y z q in
+        let u = either-placed s (λ x. encode i x) (λ x. encode j x) (λ x b. itemFields i g k x b) (λ x b. itemFields j g k x b) (λ x p z q. item-placed i g k x p z q) (λ x p z q. item-placed j g k x p z q) (v .1) (p ++ x) z (n .1) in
+        (leaf-stands s p (y ++ z) (l .tag) (l .hidden) (v .0) (n .0), rw (n .2) at u)
+
+-- the fields of a record stand in it
+pub fields-stand : (r : Run) (v : Values r) → All (Stands (recordOf r v)) (fields r v)
+unfolding fields
+fields-stand r v =
+    let c : List ℕ = encodes r v in
+    let n = inside (recordOf r v) [] [] sequence c (sym (append-nil (recordOf r v))) in
+    let m : length (sequence ∷ octets (length c)) ≡ before (length c) = omega arith in
+    rw m at (run-placed (recordOf r v) r 0 v (sequence ∷ octets (length c)) [] (n .0))
+
+-- and so does the one that is asked for
+pub first-stands : (P : Entry → Type 0) (p : Entry → Bool) (xs : List Entry) (x : Entry) → All P xs → first p xs ≡ some x → P x
+unfolding first
+first-stands P p [] x h e = let z : _≡_ {A = ℕ} 0 1 = cc in let y : ⊥ = omega arith in absurd y
+first-stands P p (y ∷ ys) x h e =
+    test (p y)
+    (λ t. let q : some y ≡ some x = sym (pick-yes (p y) _ _ t) ∙ e in let u : y ≡ x = cc in rw (← u) (h .0))
+    (λ t. first-stands P p ys x (h .1) (sym (pick-no (p y) _ _ t) ∙ e))

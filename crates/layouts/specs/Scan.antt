@@ -1,0 +1,65 @@
+-- Reading by positions: where what follows an item starts, or the refusal. Assumes nothing.
+-- Nobody has to believe this page: `Laws.Scan` proves that it is `Reading`, and code is proved against its steps.
+use Prim.Native.Nat.{ℕ, suc, zero}
+use mathlib.Core.Bool.{Bool, true, false, _&&_, _||_}
+use mathlib.Core.List.{List, [], _∷_}
+use lib.ListN.{getD}
+use lib.Seq.{slice}
+use lib.Dec.{ltb, eqb}
+use Rattle.terms.specs.Numbers.{left-over, no-item, too-many-items}
+use Rattle.terms.specs.Answer.{pick, same}
+use Rattle.heads.specs.Head.{headAt}
+use Rattle.heads.specs.declared.Seen.{Seen}
+use Rattle.heads.specs.declared.Seen.the-variants.{Item as At, Refused as Bad}
+use Rattle.heads.specs.declared.Step.{Step}
+use Rattle.heads.specs.declared.Step.the-variants.{Next, Refused}
+use Rattle.contents.specs.Content.{Check, fine, wrong, Leaf, placeOf}
+use Rattle.contents.specs.Leaves.{boolean}
+use Rattle.layouts.specs.Layout.{Item, leaf, node, list, wrap, Run, end, _▸_, Member, known, one, maybe, flag, choose, tagOf}
+
+abbrev pub thenSeen : Seen → (ℕ → ℕ → Step) → Step
+thenSeen (At a z) k = k a z
+thenSeen (Bad n p) k = Refused n p
+
+abbrev pub thenStep : Step → (ℕ → Step) → Step
+thenStep (Next a) k = k a
+thenStep (Refused n p) k = Refused n p
+
+abbrev pub judgeAt : Check → ℕ → ℕ → ℕ → Seen
+judgeAt fine p a z = At a z
+judgeAt (wrong n x) p a z = Bad n (placeOf x p a)
+
+abbrev pub thenJudge : Seen → (ℕ → ℕ → Seen) → Seen
+thenJudge (At a z) k = k a z
+thenJudge (Bad n p) k = Bad n p
+
+unfoldable pub leafAt : Leaf → List ℕ → ℕ → ℕ → Seen
+leafAt l s p e = thenJudge (headAt (l .tag) s p e) λ a z. judgeAt (l .rule (slice a z s)) p a z
+
+unfoldable pub beginsAt : ℕ → List ℕ → ℕ → ℕ → Bool
+beginsAt t s p e = ltb p e && eqb (getD s p 0) t
+
+unfoldable pub closeAt : ℕ → ℕ → Step
+closeAt p e = pick (ltb p e) (Refused left-over p) (Next e)
+
+unfoldable pub scanMany : (ℕ → Step) → ℕ → ℕ → ℕ → Step
+scanMany f zero p e = pick (ltb p e) (Refused too-many-items p) (Next e)
+scanMany f (suc n) p e = pick (ltb p e) (thenStep (f p) λ q. scanMany f n q e) (Next e)
+
+unfoldable mutual
+  pub scan : Item → List ℕ → ℕ → ℕ → Step
+  scan (leaf l) s p e = thenSeen (leafAt l s p e) λ a z. Next z
+  scan (node t r) s p e = thenSeen (headAt t s p e) λ a z. scans r s a z
+  scan (list t k n f i) s p e = thenSeen (headAt t s p e) λ a z. pick (k || ltb a z) (scanMany (λ q. scan i s q z) n a z) (Refused no-item p)
+  scan (wrap t i) s p e = thenSeen (headAt t s p e) λ a z. thenStep (scan i s a z) λ q. closeAt q z
+
+  pub scans : Run → List ℕ → ℕ → ℕ → Step
+  scans end s p e = closeAt p e
+  scans (m ▸ r) s p e = thenStep (scanPart m s p e) λ q. scans r s q e
+
+  pub scanPart : Member → List ℕ → ℕ → ℕ → Step
+  scanPart (known l k n) s p e = thenSeen (leafAt l s p e) λ a z. pick (same (slice a z s) k) (Next z) (Refused n p)
+  scanPart (one f i) s p e = scan i s p e
+  scanPart (maybe f i) s p e = pick (beginsAt (tagOf i) s p e) (scan i s p e) (Next p)
+  scanPart (flag f) s p e = pick (beginsAt (boolean .tag) s p e) (thenSeen (leafAt boolean s p e) λ a z. Next z) (Next p)
+  scanPart (choose f l t g i j) s p e = thenSeen (leafAt l s p e) λ a z. pick (t (slice a z s)) (scan i s z e) (scan j s z e)
