@@ -72,9 +72,12 @@ unstretch x = pick (eqb (length x) widest) (some (shrink x)) none
 abbrev pub any : ℤ → Bool
 any z = true
 
+abbrev pub is : ℕ → ℤ → Bool
+is n z = leZ (pos n) z && leZ z (pos n)
+
 -- "list kind, INTEGER 1 or 2"
 abbrev pub isKind : ℤ → Bool
-isKind z = leZ (pos 1) z && leZ z (pos 2)
+isKind z = is 1 z || is 2 z
 
 -- "width and height in mm, INTEGER 1 to 65,535"
 abbrev pub isMillimetres : ℤ → Bool

@@ -1,0 +1,4 @@
+pub mod Record
+pub mod Handing
+pub mod Samples
+pub mod Examples

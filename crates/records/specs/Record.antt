@@ -1,0 +1,89 @@
+-- The layouts of document 01, "Layout (000, 6.1 and 7.1)", line by line; the parts of a structure stand above it. Assumes nothing.
+use mathlib.Core.Bool.{Bool, true, false}
+use mathlib.Core.List.{List, [], _∷_}
+use Prim.Native.Nat.{ℕ}
+use Rattle.terms.specs.declared.Field.{Field}
+use Rattle.terms.specs.declared.Field.the-variants.{SealInformation, Header, Vendor, SealId, Property, SealType, SealName, ListKind, CertificateList, ListedCertificate, ListedEntry, ListedName, ListedDigest, Created, Start, End, Picture, PictureType, PictureData, Width, Height, SealCustomData, SealCustomItem, SealCustomId, SealCustomCritical, SealCustomValue, MakerCertificate, SealAlgorithm, SealSignedValue, SignedPart, Seal, SigningTime, OriginalDigest, PropertyText, SignedCustomData, SignedCustomItem, SignedCustomId, SignedCustomCritical, SignedCustomValue, SignerCertificate, SignatureAlgorithm, SignatureValue, Stamp}
+use Rattle.terms.specs.Numbers.{not-allowed, not-es, most-items}
+use Rattle.contents.specs.Content.{Leaf}
+use Rattle.contents.specs.Integer.{value, any, is, isKind, isMillimetres}
+use Rattle.contents.specs.Leaves.{may-be-empty, needs-a-byte, integer, bitString, octetString, identifier, utf8String, printableString, ia5String, generalizedTime}
+use Rattle.layouts.specs.Layout.{Item, leaf, node, list, wrap, Run, end, _▸_, Member, known, one, maybe, flag, choose}
+use Rattle.layouts.specs.Whole.{sequence}
+
+-- ---- ways of writing it
+
+-- a field that is a primitive item
+abbrev field : Field → Leaf → Member
+field f l = one f (leaf l)
+
+-- a field that is a SEQUENCE
+abbrev part : Field → Run → Member
+part f r = one f (node sequence r)
+
+-- "INTEGER 4"
+abbrev four : Member
+four = known (integer any) (4 ∷ []) not-allowed
+
+-- "[0] is explicit: A0 around one whole item."
+abbrev pub tagged-0 : Item → Item
+tagged-0 i = wrap 0xA0 i
+
+-- ---- the seal
+
+-- "Header, SEQUENCE: IA5String "ES"; INTEGER 4; vendor, IA5String."
+abbrev pub header : Run
+header = known (ia5String needs-a-byte) (0x45 ∷ 0x53 ∷ []) not-es ▸ four ▸ field Vendor (ia5String may-be-empty) ▸ end
+
+-- "Certificate list, SEQUENCE of 1 to 64 items. Kind 1: each a certificate, OCTET STRING."
+abbrev pub certificates : Item
+certificates = list sequence false most-items ListedCertificate (leaf (octetString needs-a-byte))
+
+-- "Kind 2: each a SEQUENCE of a PrintableString and a digest, OCTET STRING."
+abbrev pub digests : Item
+digests = list sequence false most-items ListedEntry (node sequence (field ListedName (printableString may-be-empty) ▸ field ListedDigest (octetString needs-a-byte) ▸ end))
+
+-- "Property, SEQUENCE: type, INTEGER; name, UTF8String; list kind, INTEGER 1 or 2; certificate list; created, start and end, GeneralizedTime."
+-- "The kind already read decides."
+abbrev pub property : Run
+property =
+    field SealType (integer any) ▸ field SealName (utf8String may-be-empty)
+    ▸ choose ListKind (integer isKind) (λ c. is 1 (value c)) CertificateList certificates digests
+    ▸ field Created generalizedTime ▸ field Start generalizedTime ▸ field End generalizedTime ▸ end
+
+-- "Picture, SEQUENCE: type, IA5String; data, OCTET STRING; width and height in mm, INTEGER 1 to 65,535 (a house bound)."
+abbrev pub picture : Run
+picture =
+    field PictureType (ia5String needs-a-byte) ▸ field PictureData (octetString needs-a-byte)
+    ▸ field Width (integer isMillimetres) ▸ field Height (integer isMillimetres) ▸ end
+
+-- "Custom data, SEQUENCE of 0 to 64 SEQUENCEs: OBJECT IDENTIFIER; critical, BOOLEAN default FALSE; value, OCTET STRING."
+-- It stands in a seal and in a signed part, under names of each.
+abbrev pub customData : Field → Field → Field → Field → Item
+customData item id critical value′ =
+    list sequence true most-items item (node sequence (field id identifier ▸ flag critical ▸ field value′ (octetString may-be-empty) ▸ end))
+
+-- "Seal information, SEQUENCE: header; seal id, IA5String; property; picture; custom data, optional, untagged."
+abbrev pub sealInformation : Run
+sealInformation =
+    part Header header ▸ field SealId (ia5String needs-a-byte) ▸ part Property property ▸ part Picture picture
+    ▸ maybe SealCustomData (customData SealCustomItem SealCustomId SealCustomCritical SealCustomValue) ▸ end
+
+-- "Seal, SEQUENCE: seal information; maker certificate, OCTET STRING; algorithm, OBJECT IDENTIFIER; signed value, BIT STRING."
+abbrev pub seal : Run
+seal = part SealInformation sealInformation ▸ field MakerCertificate (octetString needs-a-byte) ▸ field SealAlgorithm identifier ▸ field SealSignedValue bitString ▸ end
+
+-- ---- the signature record
+
+-- "Signed part, SEQUENCE: INTEGER 4; seal; signing time, GeneralizedTime; original digest, BIT STRING; property text, IA5String;
+-- custom data, [0], optional."
+abbrev pub signedPart : Run
+signedPart =
+    four ▸ part Seal seal ▸ field SigningTime generalizedTime ▸ field OriginalDigest bitString ▸ field PropertyText (ia5String needs-a-byte)
+    ▸ maybe SignedCustomData (tagged-0 (customData SignedCustomItem SignedCustomId SignedCustomCritical SignedCustomValue)) ▸ end
+
+-- "Signature record, SEQUENCE: signed part; signer certificate, OCTET STRING; algorithm; signature, BIT STRING; stamp, [0] BIT STRING, optional."
+abbrev pub signature : Run
+signature =
+    part SignedPart signedPart ▸ field SignerCertificate (octetString needs-a-byte) ▸ field SignatureAlgorithm identifier ▸ field SignatureValue bitString
+    ▸ maybe Stamp (tagged-0 (leaf bitString)) ▸ end
