@@ -2,3 +2,4 @@ pub mod Record
 pub mod Handing
 pub mod Samples
 pub mod Examples
+pub mod Laws

@@ -1,0 +1,109 @@
+-- What holds of seals and signature records beyond every layout: their layouts are clear, a signature's sheet begins with its seal's,
+-- and equal signed bytes are those of equal fields. Assumes nothing.
+use mathlib.Core.Path.{_≡_, refl, sym, ap, _∙_}
+use Prim.Native.Nat.{ℕ, _+_, _≤_, _<_}
+use native.Mathlib.Omega.{arith}
+use mathlib.Core.Bool.{Bool, true, false, _&&_}
+use mathlib.Core.Option.{Option, none, some}
+use mathlib.Core.List.{List, [], _∷_, _++_, append-assoc}
+use lib.ListN.{length, length-append}
+use lib.Dec.{T, leb}
+use Rattle.terms.specs.declared.Field.{Field}
+use Rattle.terms.specs.declared.Field.the-variants.{SignedPart, SealInformation}
+use Rattle.terms.specs.Names.{code, sameName}
+use Rattle.terms.specs.Numbers.{largest-record}
+use Rattle.terms.specs.Answer.{Res, good, pick, same, enough}
+use Rattle.terms.specs.Laws.Answer.{and-l, and-r}
+use Rattle.terms.specs.Digits.{digits, numberFrom}
+use Rattle.heads.specs.Head.{tlv, before, unspelled}
+use Rattle.heads.specs.Laws.Head.{length-tlv}
+use Rattle.contents.specs.Content.{ask, passes}
+use Rattle.contents.specs.Integer.{sign, shortest, wellFormed, value, turned}
+use Rattle.contents.specs.Text.{within, starts, follows, textFrom}
+use Rattle.contents.specs.Rules.{integerRule, stringRule}
+use Rattle.layouts.specs.Layout.{Item, node, Run, end, _▸_, Member, one, Value, Values, Part, Ok, Oks, encode, encodes, encodePart}
+use Rattle.layouts.specs.Sheet.{sheet, sheets, sheetPart}
+use Rattle.layouts.specs.Whole.{sequence, recordOf, accept}
+use Rattle.layouts.specs.Fields.{Entry, itemFields, runFields, fields, isField, first, bytesIn}
+use Rattle.layouts.specs.Laws.Reading.{clear, clears, apart, tells, spare, injective}
+use Rattle.layouts.specs.Laws.Whole.{accept-back}
+use Rattle.records.specs.Record.{sealInformation, seal, signedPart, signature}
+use Rattle.records.specs.Handing.{readRecord}
+
+-- ---- the layouts are clear
+
+pub seal-clear : T (clear (node sequence seal))
+unfolding clear apart tells spare passes ask integerRule stringRule wellFormed shortest sign value turned numberFrom pick within starts follows textFrom enough
+seal-clear = tt
+
+pub signature-clear : T (clear (node sequence signature))
+unfolding clear apart tells spare passes ask integerRule stringRule wellFormed shortest sign value turned numberFrom pick within starts follows textFrom enough
+signature-clear = tt
+
+pub record-spelled : largest-record < unspelled
+record-spelled = omega arith
+
+-- ---- parts of a value that a law names
+
+abbrev pub informationOf : Values seal → Values sealInformation
+informationOf v = v .0
+
+abbrev pub signedPartOf : Values signature → Values signedPart
+signedPartOf v = v .0
+
+abbrev pub sealOf : Values signature → Values seal
+sealOf v = signedPartOf v .1 .0
+
+-- ---- "a signature's sheet begins with its seal's"
+
+pub sheet-begins : (v : Values signature) → (rest : List ℕ) × (sheets signature v ≡ sheets seal (sealOf v) ++ rest)
+unfolding sheet
+sheet-begins v = (_, append-assoc (sheets seal (sealOf v)) _ _)
+
+-- ---- signed bytes
+
+-- "Signed bytes are the signed part, or the seal information, with its own tag and length."
+unfoldable pub signedBytes : Field → (r : Run) → Values r → List ℕ
+signedBytes f r v = bytesIn (first (isField f 0) (fields r v))
+
+signed-signature : (v : Values signature) → signedBytes SignedPart signature v ≡ recordOf signedPart (signedPartOf v)
+unfolding signedBytes bytesIn first isField sameName code fields itemFields pick
+signed-signature v = refl
+
+signed-seal : (v : Values seal) → signedBytes SealInformation seal v ≡ recordOf sealInformation (informationOf v)
+unfolding signedBytes bytesIn first isField sameName code fields itemFields pick
+signed-seal v = refl
+
+-- a record whose first member is a SEQUENCE: two accepted records with equal bytes there have equal values there
+module _ (f : Field) (q rest : Run) (k : T (clear (node sequence (one f (node sequence q) ▸ rest)))) where
+  abbrev whole : Run
+  whole = one f (node sequence q) ▸ rest
+
+  inner-clear : T (clear (node sequence q))
+  unfolding clear tells
+  inner-clear =
+      let k₁ = and-r (leb (spare whole) 16) (clears whole) k in
+      and-l (clear (node sequence q)) (clears rest) k₁
+
+  inner-short : (v : Values whole) → length (recordOf whole v) ≤ largest-record → length (recordOf q (v .0)) < unspelled
+  unfolding encode
+  inner-short v h = omega (arith, length-tlv sequence (encodes whole v), length-append (recordOf q (v .0)) (encodes rest (v .1)))
+
+  same-first : (w x : List ℕ) (u v : Values whole) → readRecord whole w ≡ good u → readRecord whole x ≡ good v → recordOf q (u .0) ≡ recordOf q (v .0) → u .0 ≡ v .0
+  unfolding encode
+  same-first w x u v e g h =
+      let a = accept-back largest-record whole w u e in
+      let b = accept-back largest-record whole x v g in
+      let l : length (recordOf whole u) ≤ largest-record = rw (← a .0) (a .2) in
+      injective (node sequence q) inner-clear (u .0) (v .0) (a .1 .0) (b .1 .0) (inner-short u l) h
+
+-- "equal signed bytes mean equal fields, the seal included"
+pub equal-signature : (w x : List ℕ) (u v : Values signature) → readRecord signature w ≡ good u → readRecord signature x ≡ good v
+    → signedBytes SignedPart signature u ≡ signedBytes SignedPart signature v → (signedPartOf u ≡ signedPartOf v) × (sealOf u ≡ sealOf v)
+equal-signature w x u v e g h =
+    let p : signedPartOf u ≡ signedPartOf v = same-first SignedPart signedPart _ signature-clear w x u v e g (sym (signed-signature u) ∙ h ∙ signed-signature v) in
+    (p, ap (λ (y : Values signedPart). y .1 .0) p)
+
+pub equal-seal : (w x : List ℕ) (u v : Values seal) → readRecord seal w ≡ good u → readRecord seal x ≡ good v
+    → signedBytes SealInformation seal u ≡ signedBytes SealInformation seal v → informationOf u ≡ informationOf v
+equal-seal w x u v e g h = same-first SealInformation sealInformation _ seal-clear w x u v e g (sym (signed-seal u) ∙ h ∙ signed-seal v)

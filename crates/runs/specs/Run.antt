@@ -1,0 +1,116 @@
+-- A run: accepted records end to end, none or many (01, "Refusal numbers" and "Handing out"). Assumes nothing.
+use Prim.Native.Nat.{ℕ, suc, zero, _+_, _-_, _^_}
+use mathlib.Core.List.{List, [], _∷_}
+use lib.ListN.{length, drop}
+use lib.IntN.{pos}
+use lib.Dec.{ltb}
+use Rattle.terms.specs.Numbers.{done, run-end, too-many-items, largest-record}
+use Rattle.terms.specs.Answer.{Res, good, fault, Got, pick, Told, told-one, told-none}
+use Rattle.layouts.specs.Layout.{Run, Values, each}
+use Rattle.layouts.specs.Whole.{recordOf, recordAt}
+use Rattle.runs.specs.declared.Stepped.{Stepped}
+use Rattle.runs.specs.declared.Stepped.the-variants.{Record, End, Refused as StepRefused}
+use Rattle.runs.specs.declared.Counted.{Counted}
+use Rattle.runs.specs.declared.Counted.the-variants.{Records, Refused as RunRefused}
+
+-- the bytes of a list of records
+abbrev pub runOf : (r : Run) → List (Values r) → List ℕ
+runOf r vs = each (λ v. recordOf r v) vs
+
+-- ---- a whole run
+
+-- the records of a run; or those before the fault, with its number and its place from the run's start
+pub data Ran (A : Type 0) : Type 0 where
+  whole : List A → Ran A
+  stopped : List A → ℕ → ℕ → Ran A
+
+unfoldable pub andThen : {A : Type 0} → A → Ran A → Ran A
+andThen a (whole xs) = whole (a ∷ xs)
+andThen a (stopped xs n p) = stopped (a ∷ xs) n p
+
+unfoldable pub onward : {A : Type 0} → Res (Got A) → (Got A → Ran A) → Ran A
+onward (good a) k = k a
+onward (fault n p) k = stopped [] n p
+
+-- records from the front of a window to its end; `k` counts down, and no run has more records than bytes (`Laws.Run.enough`)
+unfoldable pub runFrom : ℕ → (r : Run) → List ℕ → ℕ → Ran (Values r)
+runFrom zero r w b = whole []
+runFrom (suc k) r [] b = whole []
+runFrom (suc k) r (x ∷ w) b = onward (recordAt largest-record r (x ∷ w) b) λ a. andThen (a .0) (runFrom k r (a .1) (a .2))
+
+-- "No bytes are a run of no records." "a record's end is no fault 5"
+unfoldable pub readRun : (r : Run) → List ℕ → Ran (Values r)
+readRun r w = runFrom (length w) r w 0
+
+-- "In a run, the answer also has the number of records before the fault"
+abbrev pub toldRan : {A : Type 0} → Ran A → Told
+toldRan (whole vs) = told-one done (length vs)
+toldRan (stopped vs n p) = record { number = n; values = pos p ∷ pos (length vs) ∷ [] }
+
+unfoldable pub runAnswer : Run → List ℕ → Told
+runAnswer r w = toldRan (readRun r w)
+
+-- ---- the run reader
+
+-- it holds a position and the number of records handed out
+pub record Reader : Type 0 where
+  pub position : ℕ
+  pub handed : ℕ
+
+-- "both 0 when it is made"
+abbrev pub made : Reader
+made = record { position = 0; handed = 0 }
+
+-- what stands at a position: a record, the end, or a fault
+pub data Here (A : Type 0) : Type 0 where
+  taken : Got A → Here A
+  ended : Here A
+  faulty : ℕ → ℕ → Here A
+
+abbrev pub hereOf : {A : Type 0} → Res (Got A) → Here A
+hereOf (good a) = taken a
+hereOf (fault n p) = faulty n p
+
+unfoldable pub hereIn : (r : Run) → List ℕ → ℕ → Here (Values r)
+hereIn r [] p = ended
+hereIn r (x ∷ w) p = hereOf (recordAt largest-record r (x ∷ w) p)
+
+-- "At any other position it reads as if a record began there, past the end as at the end"
+unfoldable pub hereAt : (r : Run) → List ℕ → ℕ → Here (Values r)
+hereAt r s p = hereIn r (drop p s) p
+
+-- its number's type: u64
+abbrev pub top : ℕ
+top = 2 ^ 64 - 1
+
+-- "a number at its type's top stays"
+unfoldable pub oneMore : ℕ → ℕ
+oneMore n = pick (ltb n top) (n + 1) n
+
+-- "at the end, or at a fault, it stays and repeats that answer"
+abbrev pub afterHere : {A : Type 0} → Here A → Reader → Reader
+afterHere (taken a) x = record { position = a .2; handed = oneMore (x .handed) }
+afterHere ended x = x
+afterHere (faulty n p) x = x
+
+unfoldable pub stepAfter : (r : Run) → List ℕ → Reader → Reader
+stepAfter r s x = afterHere (hereAt r s (x .position)) x
+
+abbrev pub toldHere : {A : Type 0} → Here A → Reader → Told
+toldHere (taken a) x = record { number = done; values = pos (x .position) ∷ pos (a .2 - x .position) ∷ [] }
+toldHere ended x = told-none run-end
+toldHere (faulty n p) x = record { number = n; values = pos p ∷ pos (x .handed) ∷ [] }
+
+unfoldable pub stepAnswer : (r : Run) → List ℕ → Reader → Told
+stepAnswer r s x = toldHere (hereAt r s (x .position)) x
+
+-- ---- what the code's answers say in the paper's terms
+
+abbrev pub toldStepped : Stepped → Told
+toldStepped (Record a n) = record { number = done; values = pos a ∷ pos n ∷ [] }
+toldStepped End = told-none run-end
+toldStepped (StepRefused n p k) = record { number = n; values = pos p ∷ pos k ∷ [] }
+
+abbrev pub toldCounted : Counted → Told
+toldCounted (Records n) = told-one done n
+toldCounted (RunRefused n p k) = record { number = n; values = pos p ∷ pos k ∷ [] }
