@@ -5,3 +5,4 @@ pub mod Time
 pub mod Rules
 pub mod Leaves
 pub mod Laws
+pub mod Examples

@@ -5,7 +5,7 @@ use mathlib.Core.List.{List, [], _∷_, _++_}
 use lib.ListN.{length, drop}
 use lib.Dec.{leb}
 use Rattle.terms.specs.Numbers.{done, too-large, bad-sheet, no-room}
-use Rattle.terms.specs.Answer.{Res, good, fault, Got, bind, need, Told, told-one}
+use Rattle.terms.specs.Answer.{Res, good, fault, Got, bind, need, Told, told-one, refusal}
 use Rattle.heads.specs.Head.{tlv, outermost}
 use Rattle.layouts.specs.Layout.{Run, Values, encodes}
 use Rattle.layouts.specs.Reading.{next, reads, finish}
@@ -61,4 +61,4 @@ stored (fault n p) d = d
 -- an outcome in the paper's terms
 abbrev pub toldOutcome : Outcome → Told
 toldOutcome (Length n) = told-one done n
-toldOutcome (Refused n p) = told-one n p
+toldOutcome (Refused n p) = refusal n p

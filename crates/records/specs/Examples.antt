@@ -10,7 +10,7 @@ use Rattle.terms.specs.declared.Field.{Field}
 use Rattle.terms.specs.declared.Field.the-variants.{SealInformation, Header, Vendor, SealId, Property, SealType, SealName, ListKind, CertificateList, ListedCertificate, ListedEntry, ListedName, ListedDigest, Created, Start, End, Picture, PictureType, PictureData, Width, Height, SealCustomData, SealCustomItem, SealCustomId, SealCustomCritical, SealCustomValue, MakerCertificate, SealAlgorithm, SealSignedValue, SignedPart, Seal, SigningTime, OriginalDigest, PropertyText, SignedCustomData, SignedCustomItem, SignedCustomId, SignedCustomCritical, SignedCustomValue, SignerCertificate, SignatureAlgorithm, SignatureValue, Stamp}
 use Rattle.terms.specs.Names.{code, sameName}
 use Rattle.terms.specs.Numbers.{done, absent, other-tag, bad-boolean, left-over, bad-length, item-missing}
-use Rattle.terms.specs.Answer.{Res, good, fault, pick, bind, need, have, every, enough, same, Told, told-one, told-none, answered, Row, asks, answers, sameWhole, sameWholes, sameTold, agree}
+use Rattle.terms.specs.Answer.{Res, good, fault, pick, bind, need, have, every, enough, same, Told, gives, told-one, told-two, told-none, refusal, answered, Row, asks, answers, sameWhole, sameWholes, sameTold, agree}
 use Rattle.terms.specs.Laws.Answer.{agreed}
 use Rattle.terms.specs.Digits.{digits, numberFrom, leading}
 use Rattle.heads.specs.Head.{spell, octets, tlv, unspell, size, opening, cut, head, outermost}
@@ -35,10 +35,10 @@ unfolding code sameName pick bind need have every enough same digits numberFrom 
 evaluate = tt
 
 abbrev at : ℕ → ℕ → Told
-at a n = record { number = done; values = pos a ∷ pos n ∷ [] }
+at a n = told-two done a n
 
 abbrev whole : ℤ → Told
-whole z = record { number = done; values = z ∷ [] }
+whole z = gives done (z ∷ [])
 
 -- ---- the sizes of S, its signed bytes, and the check program's four lines
 
@@ -60,9 +60,9 @@ numbersS =
     ∷ (fieldAnswer signature SignedPart 0 recordS, at 3 145)
     ∷ (fieldAnswer signature SealInformation 0 recordS, at 11 96)
     ∷ (fieldAnswer seal SealInformation 0 sealS, at 2 96)
-    ∷ (recordAnswer signature (recordS ++ (0x00 ∷ [])), told-one left-over 165)
-    ∷ (recordAnswer signature (0x30 ∷ 0x80 ∷ []), told-one bad-length 0)
-    ∷ (recordAnswer signature [], told-one item-missing 0)
+    ∷ (recordAnswer signature (recordS ++ (0x00 ∷ [])), refusal left-over 165)
+    ∷ (recordAnswer signature (0x30 ∷ 0x80 ∷ []), refusal bad-length 0)
+    ∷ (recordAnswer signature [], refusal item-missing 0)
     ∷ []
 
 numbers-of-S : asks numbersS ≡ answers numbersS
@@ -165,7 +165,7 @@ answersD =
     ∷ (fieldAnswer signature ListedCertificate 0 recordD, told-none absent)
     ∷ (fieldAnswer signature ListedDigest 2 recordD, told-none absent)
     ∷ (fieldAnswer signature Stamp 0 recordS, told-none absent)
-    ∷ (fieldAnswer signature Vendor 0 (0x30 ∷ 0x80 ∷ []), told-one bad-length 0)
+    ∷ (fieldAnswer signature Vendor 0 (0x30 ∷ 0x80 ∷ []), refusal bad-length 0)
     ∷ []
 
 answers-of-D : asks answersD ≡ answers answersD
@@ -190,8 +190,8 @@ emptyCustom =
 
 abbrev slipRows : List Row
 slipRows =
-    (recordAnswer signature digestsAsKind1, told-one other-tag 49)
-    ∷ (recordAnswer signature falseWritten, told-one bad-boolean 146)
+    (recordAnswer signature digestsAsKind1, refusal other-tag 49)
+    ∷ (recordAnswer signature falseWritten, refusal bad-boolean 146)
     ∷ (recordAnswer signature emptyCustom, told-one done 167)
     ∷ (fieldAnswer signature SealCustomData 0 emptyCustom, at 107 2)
     ∷ (countAnswer signature SealCustomData emptyCustom, told-one done 0)

@@ -4,12 +4,11 @@ use mathlib.Core.Bool.{Bool, true, false, _&&_, _||_}
 use mathlib.Core.Option.{Option, none, some}
 use mathlib.Core.List.{List, [], _∷_}
 use lib.ListN.{length}
-use lib.IntN.{ℤ, pos}
 use Rattle.terms.specs.declared.Field.{Field}
 use Rattle.terms.specs.declared.Field.the-variants.{SealType, ListKind, CertificateList, ListedCertificate, ListedEntry, ListedDigest, Width, Height, SealCustomData, SealCustomItem, SealCustomCritical, SignedCustomData, SignedCustomItem, SignedCustomCritical}
 use Rattle.terms.specs.Names.{sameName}
 use Rattle.terms.specs.Numbers.{done, absent, largest-record}
-use Rattle.terms.specs.Answer.{Res, good, fault, pick, same, Told, told-one, told-none, answered}
+use Rattle.terms.specs.Answer.{Res, good, fault, pick, same, Told, gives, told-one, told-two, told-none, refusal, answered}
 use Rattle.contents.specs.Integer.{value}
 use Rattle.layouts.specs.Layout.{Run, Values}
 use Rattle.layouts.specs.Whole.{accept, fillSheet, writeRecord}
@@ -57,12 +56,12 @@ writeAnswer r x room = answered (λ w. length w) (writeFrom r x room)
 -- what is asked of a record, or its refusal
 abbrev pub asked : {A : Type 0} → Res A → (A → Told) → Told
 asked (good v) f = f v
-asked (fault n p) f = told-one n p
+asked (fault n p) f = refusal n p
 
 -- where a field lies, start and length
 abbrev pub toldEntry : Option Entry → Told
 toldEntry none = told-none absent
-toldEntry (some x) = record { number = done; values = pos (x .place) ∷ pos (length (x .bytes)) ∷ [] }
+toldEntry (some x) = told-two done (x .place) (length (x .bytes))
 
 -- "in a list by index, absent past the last"
 unfoldable pub fieldAnswer : Run → Field → ℕ → List ℕ → Told
@@ -82,7 +81,7 @@ isInteger f = sameName SealType f || (sameName ListKind f || (sameName Width f |
 abbrev toldValue : Bool → Option Entry → Told
 toldValue false x = told-none absent
 toldValue true none = told-none absent
-toldValue true (some x) = record { number = done; values = value (x .bytes) ∷ [] }
+toldValue true (some x) = gives done (value (x .bytes) ∷ [])
 
 unfoldable pub valueAnswer : Run → Field → List ℕ → Told
 valueAnswer r f w = asked (readRecord r w) λ v. toldValue (isInteger f) (first (isField f 0) (fields r v))
@@ -121,24 +120,24 @@ countAnswer r f w =
 -- ---- what the code's answers say in the paper's terms
 
 abbrev pub toldPart : Part → Told
-toldPart (There a n) = record { number = done; values = pos a ∷ pos n ∷ [] }
+toldPart (There a n) = told-two done a n
 toldPart NoPart = told-none absent
-toldPart (PartRefused n p) = told-one n p
+toldPart (PartRefused n p) = refusal n p
 
 abbrev pub toldWhole : Whole → Told
-toldWhole (Value z) = record { number = done; values = z ∷ [] }
+toldWhole (Value z) = gives done (z ∷ [])
 toldWhole NoWhole = told-none absent
-toldWhole (WholeRefused n p) = told-one n p
+toldWhole (WholeRefused n p) = refusal n p
 
 abbrev pub toldIs : Critical → Told
 toldIs (Is t) = told-one done (bit t)
 toldIs NoCritical = told-none absent
-toldIs (CriticalRefused n p) = told-one n p
+toldIs (CriticalRefused n p) = refusal n p
 
 abbrev pub toldItems : Items → Told
 toldItems (Count n) = told-one done n
 toldItems NoItems = told-none absent
-toldItems (ItemsRefused n p) = told-one n p
+toldItems (ItemsRefused n p) = refusal n p
 
 -- "With a refusal, an absent field or no match, the part is empty, at the record's start": start and length of what is handed out
 abbrev pub handedOut : Part → ℕ × ℕ

@@ -5,7 +5,7 @@ use lib.ListN.{length, drop}
 use lib.IntN.{pos}
 use lib.Dec.{ltb}
 use Rattle.terms.specs.Numbers.{done, run-end, too-many-items, largest-record}
-use Rattle.terms.specs.Answer.{Res, good, fault, Got, pick, Told, told-one, told-none}
+use Rattle.terms.specs.Answer.{Res, good, fault, Got, pick, Told, refuses, told-one, told-two, told-none}
 use Rattle.layouts.specs.Layout.{Run, Values, each}
 use Rattle.layouts.specs.Whole.{recordOf, recordAt}
 use Rattle.runs.specs.declared.Stepped.{Stepped}
@@ -16,6 +16,10 @@ use Rattle.runs.specs.declared.Counted.the-variants.{Records, Refused as
 -- the bytes of a list of records
 abbrev pub runOf : (r : Run) → List (Values r) → List ℕ
 runOf r vs = each (λ v. recordOf r v) vs
+
+-- a refusal with the number of records before it
+abbrev refusal-after : ℕ → ℕ → ℕ → Told
+refusal-after n p k = refuses n (pos p ∷ pos k ∷ [])
 
 -- ---- a whole run
 
@@ -45,7 +49,7 @@ readRun r w = runFrom (length w) r w 0
 -- "In a run, the answer also has the number of records before the fault"
 abbrev pub toldRan : {A : Type 0} → Ran A → Told
 toldRan (whole vs) = told-one done (length vs)
-toldRan (stopped vs n p) = record { number = n; values = pos p ∷ pos (length vs) ∷ [] }
+toldRan (stopped vs n p) = refusal-after n p (length vs)
 
 unfoldable pub runAnswer : Run → List ℕ → Told
 runAnswer r w = toldRan (readRun r w)
@@ -97,9 +101,9 @@ unfoldable pub stepAfter : (r : Run) → List ℕ → Reader → Reader
 stepAfter r s x = afterHere (hereAt r s (x .position)) x
 
 abbrev pub toldHere : {A : Type 0} → Here A → Reader → Told
-toldHere (taken a) x = record { number = done; values = pos (x .position) ∷ pos (a .2 - x .position) ∷ [] }
+toldHere (taken a) x = told-two done (x .position) (a .2 - x .position)
 toldHere ended x = told-none run-end
-toldHere (faulty n p) x = record { number = n; values = pos p ∷ pos (x .handed) ∷ [] }
+toldHere (faulty n p) x = refusal-after n p (x .handed)
 
 unfoldable pub stepAnswer : (r : Run) → List ℕ → Reader → Told
 stepAnswer r s x = toldHere (hereAt r s (x .position)) x
@@ -107,10 +111,10 @@ stepAnswer r s x = toldHere (hereAt r s (x .position)) x
 -- ---- what the code's answers say in the paper's terms
 
 abbrev pub toldStepped : Stepped → Told
-toldStepped (Record a n) = record { number = done; values = pos a ∷ pos n ∷ [] }
+toldStepped (Record a n) = told-two done a n
 toldStepped End = told-none run-end
-toldStepped (StepRefused n p k) = record { number = n; values = pos p ∷ pos k ∷ [] }
+toldStepped (StepRefused n p k) = refusal-after n p k
 
 abbrev pub toldCounted : Counted → Told
 toldCounted (Records n) = told-one done n
-toldCounted (RunRefused n p k) = record { number = n; values = pos p ∷ pos k ∷ [] }
+toldCounted (RunRefused n p k) = refusal-after n p k

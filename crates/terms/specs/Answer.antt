@@ -54,22 +54,28 @@ same [] (y ∷ ys) = false
 same (x ∷ xs) [] = false
 same (x ∷ xs) (y ∷ ys) = eqb x y && same xs ys
 
--- An answer in the paper's terms: its number, 0 where nothing is refused, and its values (a place, a length, a count, an integer).
--- Each enum that a function answers has a definition `told` into this type.
-pub record Told : Type 0 where
-  pub number : ℕ
-  pub values : List ℤ
-
-abbrev pub told-one : ℕ → ℕ → Told
-told-one n x = record { number = n; values = pos x ∷ [] }
+-- An answer in the paper's terms, its number and its values: what was done, found or judged; or a refusal, its place the first value.
+-- Each enum that a function answers has a definition into this type.
+pub data Told : Type 0 where
+  gives : ℕ → List ℤ → Told
+  refuses : ℕ → List ℤ → Told
 
 abbrev pub told-none : ℕ → Told
-told-none n = record { number = n; values = [] }
+told-none n = gives n []
+
+abbrev pub told-one : ℕ → ℕ → Told
+told-one n x = gives n (pos x ∷ [])
+
+abbrev pub told-two : ℕ → ℕ → ℕ → Told
+told-two n x y = gives n (pos x ∷ pos y ∷ [])
+
+abbrev pub refusal : ℕ → ℕ → Told
+refusal n p = refuses n (pos p ∷ [])
 
 -- a reading whose value is told as a number
 abbrev pub answered : {A : Type 0} → (A → ℕ) → Res A → Told
 answered f (good a) = told-one done (f a)
-answered f (fault n p) = told-one n p
+answered f (fault n p) = refusal n p
 
 -- ---- tables of examples: what is asked, and what is answered
 
@@ -98,7 +104,10 @@ sameWholes (x ∷ xs) [] = false
 sameWholes (x ∷ xs) (y ∷ ys) = sameWhole x y && sameWholes xs ys
 
 unfoldable pub sameTold : Told → Told → Bool
-sameTold x y = eqb (x .number) (y .number) && sameWholes (x .values) (y .values)
+sameTold (gives m xs) (gives n ys) = eqb m n && sameWholes xs ys
+sameTold (gives m xs) (refuses n ys) = false
+sameTold (refuses m xs) (gives n ys) = false
+sameTold (refuses m xs) (refuses n ys) = eqb m n && sameWholes xs ys
 
 unfoldable pub agree : List Row → Bool
 agree [] = true

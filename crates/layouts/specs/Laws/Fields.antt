@@ -39,9 +39,10 @@ Placed {A} s e f = (a : A) (p z : List ℕ) → s ≡ p ++ (e a ++ z) → All (S
 -- inside a tag: the content stands after the head
 inside : (s p z : List ℕ) (t : ℕ) (c : List ℕ) → s ≡ p ++ (tlv t c ++ z) → (s ≡ (p ++ (t ∷ octets (length c))) ++ (c ++ z)) × (length (p ++ (t ∷ octets (length c))) ≡ length p + before (length c))
 unfolding tlv
-inside s p z t c e =
-    (e ∙ ap (λ (y : List ℕ). p ++ (t ∷ y)) (append-assoc (octets (length c)) c z) ∙ sym (append-assoc p (t ∷ octets (length c)) (c ++ z)),
-    length-append p (t ∷ octets (length c)) ∙ omega arith)
+inside s p z t c e = (
+  e ∙ ap (λ (y : List ℕ). p ++ (t ∷ y)) (append-assoc (octets (length c)) c z) ∙ sym (append-assoc p (t ∷ octets (length c)) (c ++ z)),
+  length-append p (t ∷ octets (length c)) ∙ omega arith,
+)
 
 -- past a part: the next stands after it
 past : (s p x y z : List ℕ) → s ≡ p ++ ((x ++ y) ++ z) → (s ≡ p ++ (x ++ (y ++ z))) × (s ≡ (p ++ x) ++ (y ++ z)) × (length (p ++ x) ≡ length p + length x)
@@ -97,9 +98,10 @@ module _ (s : List ℕ) where
         (stands-after s p (tlv t (encodes r v)) z (length p) q refl, rw (n .1) at (run-placed r k v (p ++ (t ∷ octets (length (encodes r v)))) z (n .0)))
     item-placed (list t e m g i) f k vs p z q =
         let c : List ℕ = each (λ v. encode i v) vs in
-        let n = inside s p z t c q in
-        (stands-after s p (tlv t c) z (length p) q refl,
-        rw (n .1) at (each-placed s (λ v. encode i v) (λ j v b. itemFields i g j v b) (λ j v p z q. item-placed i g j v p z q) 0 vs (p ++ (t ∷ octets (length c))) z (n .0)))
+        let n = inside s p z t c q in (
+          stands-after s p (tlv t c) z (length p) q refl,
+          rw (n .1) at (each-placed s (λ v. encode i v) (λ j v b. itemFields i g j v b) (λ j v p z q. item-placed i g j v p z q) 0 vs (p ++ (t ∷ octets (length c))) z (n .0)),
+        )
     item-placed (wrap t i) f k v p z q =
         let n = inside s p z t (encode i v) q in
         rw (n .1) at (item-placed i f k v (p ++ (t ∷ octets (length (encode i v)))) z (n .0))

@@ -8,7 +8,7 @@ use mathlib.Core.List.{List, [], _∷_, _++_}
 use lib.Dec.{T, eqb, eqb→eq}
 use borrow.Author.Tests.{eq-eqb}
 use lib.IntN.{ℤ, pos, negsuc}
-use Rattle.terms.specs.Answer.{Res, good, fault, pick, bind, need, have, every, same, Told, Row, asks, answers, sameWhole, sameWholes, sameTold, agree}
+use Rattle.terms.specs.Answer.{Res, good, fault, pick, bind, need, have, every, same, Told, gives, refuses, Row, asks, answers, sameWhole, sameWholes, sameTold, agree}
 
 -- a refusal is no answer
 pub clash {ℓ} : {A : Type 0} {X : Type ℓ} {n p : ℕ} {a : A} → fault n p ≡ good a → X
@@ -118,10 +118,10 @@ sameWholes-eq (x ∷ xs) (y ∷ ys) h = ap₂ _∷_ (sameWhole-eq x y (and-l (sa
 
 pub sameTold-eq : (x y : Told) → T (sameTold x y) → x ≡ y
 unfolding sameTold
-sameTold-eq x y h =
-    let t = eqb→eq (x .number) (y .number) (and-l (eqb (x .number) (y .number)) (sameWholes (x .values) (y .values)) h) in
-    let u = sameWholes-eq (x .values) (y .values) (and-r (eqb (x .number) (y .number)) (sameWholes (x .values) (y .values)) h) in
-    λ i. record { number = t i; values = u i }
+sameTold-eq (gives m xs) (gives n ys) h = ap₂ gives (eqb→eq m n (and-l (eqb m n) (sameWholes xs ys) h)) (sameWholes-eq xs ys (and-r (eqb m n) (sameWholes xs ys) h))
+sameTold-eq (gives m xs) (refuses n ys) h = absurd h
+sameTold-eq (refuses m xs) (gives n ys) h = absurd h
+sameTold-eq (refuses m xs) (refuses n ys) h = ap₂ refuses (eqb→eq m n (and-l (eqb m n) (sameWholes xs ys) h)) (sameWholes-eq xs ys (and-r (eqb m n) (sameWholes xs ys) h))
 
 -- every answer is the one in its row
 pub agreed : (rows : List Row) → T (agree rows) → asks rows ≡ answers rows

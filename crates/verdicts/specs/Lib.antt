@@ -1,0 +1,4 @@
+pub mod Findings
+pub mod Verdict
+pub mod Laws
+pub mod Examples
