@@ -6,9 +6,9 @@ use mathlib.Core.List.{List, [], _∷_, _++_}
 use lib.ListN.{replicate}
 use lib.IntN.{ℤ, pos, negsuc}
 use Rattle.terms.specs.Numbers.{done, bad-integer, not-allowed, bad-character, bad-time, bad-identifier, bad-bits, bad-boolean, no-bytes}
-use Rattle.terms.specs.Answer.{pick, bind, need, every, enough, same, Told, told-none, told-one, Row, asks, answers, sameWhole, sameWholes, sameTold, agree}
+use Rattle.terms.specs.Answer.{pick, bind, need, every, enough, same, Told, told-none, told-one}
 use Rattle.terms.specs.Digits.{digits, numberFrom}
-use Rattle.terms.specs.Laws.Answer.{agreed}
+use Rattle.terms.specs.Laws.Table.{Row, asks, answers, sameWhole, sameWholes, sameTold, agree, agreed}
 use Rattle.contents.specs.Content.{Spot, tag, inside, Check, fine, wrong, ask, passes}
 use Rattle.contents.specs.Integer.{sign, shortest, wellFormed, turned, value, eight, shrink, contentOf, any, isKind, isMillimetres}
 use Rattle.contents.specs.Text.{within, starts, follows, textFrom, ia5, printable, utf8, partsFrom, isIdentifier}

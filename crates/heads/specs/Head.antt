@@ -2,13 +2,10 @@
 use Prim.Native.Nat.{ℕ, _+_, _^_}
 use mathlib.Core.List.{List, [], _∷_, _++_}
 use lib.ListN.{length, take, drop}
-use lib.Seq.{slice}
 use lib.Dec.{leb, ltb, eqb}
 use Rattle.terms.specs.Numbers.{item-missing, other-tag, bad-length, past-end, too-large}
 use Rattle.terms.specs.Answer.{Res, good, fault, pick, bind, need, have}
 use Rattle.terms.specs.Digits.{digits, leading}
-use Rattle.heads.specs.declared.Seen.{Seen}
-use Rattle.heads.specs.declared.Seen.the-variants.{Item, Refused}
 
 -- ---- the forms of a length
 
@@ -77,15 +74,3 @@ head t w b = bind (opening t w b) λ z. cut b z
 -- the outermost item, of at most `most` bytes: 17 stands between 3 and 4
 unfoldable pub outermost : ℕ → ℕ → List ℕ → ℕ → Res Cut
 outermost most t w b = bind (opening t w b) λ z. need (leb (before (z .0) + z .0) most) too-large b (cut b z)
-
--- ---- by positions: what code answers of the window from `p` to `e` of a slice
-
-abbrev pub seen : Res Cut → Seen
-seen (good c) = Item (c .2) (c .2 + length (c .0))
-seen (fault n p) = Refused n p
-
-unfoldable pub headAt : ℕ → List ℕ → ℕ → ℕ → Seen
-headAt t s p e = seen (head t (slice p e s) p)
-
-unfoldable pub outermostAt : ℕ → ℕ → List ℕ → ℕ → ℕ → Seen
-outermostAt most t s p e = seen (outermost most t (slice p e s) p)

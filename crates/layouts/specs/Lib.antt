@@ -5,3 +5,4 @@ pub mod Whole
 pub mod Fields
 pub mod Scan
 pub mod Laws
+pub mod Examples

@@ -8,7 +8,7 @@ use lib.Seq.{slice}
 use lib.Dec.{ltb, eqb}
 use Rattle.terms.specs.Numbers.{left-over, no-item, too-many-items}
 use Rattle.terms.specs.Answer.{pick, same}
-use Rattle.heads.specs.Head.{headAt}
+use Rattle.heads.specs.Scan.{headAt}
 use Rattle.heads.specs.declared.Seen.{Seen}
 use Rattle.heads.specs.declared.Seen.the-variants.{Item as At, Refused as Bad}
 use Rattle.heads.specs.declared.Step.{Step}

@@ -5,8 +5,8 @@ use mathlib.Core.Bool.{true, false}
 use mathlib.Core.List.{List, [], _∷_}
 use lib.IntN.{ℤ, pos, negsuc}
 use Rattle.terms.specs.Numbers.{done, bad-length, bad-integer, bad-character, bad-time, bad-identifier, valid, signer-revoked}
-use Rattle.terms.specs.Answer.{Res, good, fault, Got, Told, gives, refuses, told-none, told-one, refusal, answered, Row, asks, answers}
-use Rattle.terms.specs.Laws.Answer.{agreed}
+use Rattle.terms.specs.Answer.{Res, good, fault, Got, Told, gives, refuses, told-none, told-one, refusal, answered}
+use Rattle.terms.specs.Laws.Table.{Row, asks, answers, agreed}
 use Rattle.heads.specs.Head.{size}
 use Rattle.contents.specs.Content.{Check, fine, wrong, Leaf}
 use Rattle.contents.specs.Integer.{value, any}

@@ -10,8 +10,8 @@ use Rattle.terms.specs.declared.Field.{Field}
 use Rattle.terms.specs.declared.Field.the-variants.{SealInformation, Header, Vendor, SealId, Property, SealType, SealName, ListKind, CertificateList, ListedCertificate, ListedEntry, ListedName, ListedDigest, Created, Start, End, Picture, PictureType, PictureData, Width, Height, SealCustomData, SealCustomItem, SealCustomId, SealCustomCritical, SealCustomValue, MakerCertificate, SealAlgorithm, SealSignedValue, SignedPart, Seal, SigningTime, OriginalDigest, PropertyText, SignedCustomData, SignedCustomItem, SignedCustomId, SignedCustomCritical, SignedCustomValue, SignerCertificate, SignatureAlgorithm, SignatureValue, Stamp}
 use Rattle.terms.specs.Names.{code, sameName}
 use Rattle.terms.specs.Numbers.{done, absent, other-tag, bad-boolean, left-over, bad-length, item-missing}
-use Rattle.terms.specs.Answer.{Res, good, fault, pick, bind, need, have, every, enough, same, Told, gives, told-one, told-two, told-none, refusal, answered, Row, asks, answers, sameWhole, sameWholes, sameTold, agree}
-use Rattle.terms.specs.Laws.Answer.{agreed}
+use Rattle.terms.specs.Answer.{Res, good, fault, pick, bind, need, have, every, enough, same, Told, gives, told-one, told-two, told-none, refusal, answered}
+use Rattle.terms.specs.Laws.Table.{Row, asks, answers, sameWhole, sameWholes, sameTold, agree, agreed}
 use Rattle.terms.specs.Digits.{digits, numberFrom, leading}
 use Rattle.heads.specs.Head.{spell, octets, tlv, unspell, size, opening, cut, head, outermost}
 use Rattle.contents.specs.Content.{ask, passes, placeOf, judge}

@@ -4,7 +4,7 @@ use mathlib.Core.Bool.{Bool, true, false, _&&_}
 use mathlib.Core.Option.{Option, none, some}
 use mathlib.Core.List.{List, [], _∷_}
 use lib.Dec.{eqb}
-use lib.IntN.{ℤ, pos, negsuc}
+use lib.IntN.{ℤ, pos}
 use Rattle.terms.specs.Numbers.{done}
 
 -- what was read, or the refusal's number and place
@@ -76,39 +76,3 @@ refusal n p = refuses n (pos p ∷ [])
 abbrev pub answered : {A : Type 0} → (A → ℕ) → Res A → Told
 answered f (good a) = told-one done (f a)
 answered f (fault n p) = refusal n p
-
--- ---- tables of examples: what is asked, and what is answered
-
-abbrev pub Row : Type 0
-Row = Told × Told
-
-abbrev pub asks : List Row → List Told
-asks [] = []
-asks (x ∷ xs) = x .0 ∷ asks xs
-
-abbrev pub answers : List Row → List Told
-answers [] = []
-answers (x ∷ xs) = x .1 ∷ answers xs
-
--- the test that is computed over a table
-unfoldable pub sameWhole : ℤ → ℤ → Bool
-sameWhole (pos a) (pos b) = eqb a b
-sameWhole (pos a) (negsuc b) = false
-sameWhole (negsuc a) (pos b) = false
-sameWhole (negsuc a) (negsuc b) = eqb a b
-
-unfoldable pub sameWholes : List ℤ → List ℤ → Bool
-sameWholes [] [] = true
-sameWholes [] (y ∷ ys) = false
-sameWholes (x ∷ xs) [] = false
-sameWholes (x ∷ xs) (y ∷ ys) = sameWhole x y && sameWholes xs ys
-
-unfoldable pub sameTold : Told → Told → Bool
-sameTold (gives m xs) (gives n ys) = eqb m n && sameWholes xs ys
-sameTold (gives m xs) (refuses n ys) = false
-sameTold (refuses m xs) (gives n ys) = false
-sameTold (refuses m xs) (refuses n ys) = eqb m n && sameWholes xs ys
-
-unfoldable pub agree : List Row → Bool
-agree [] = true
-agree (x ∷ xs) = sameTold (x .0) (x .1) && agree xs

@@ -5,8 +5,8 @@ use mathlib.Core.Bool.{Bool, true, false}
 use mathlib.Core.List.{List, [], _∷_}
 use lib.ListN.{set, take, drop}
 use Rattle.terms.specs.Numbers.{valid, unreal-time, signature-bad, signer-unlisted, seal-bad, maker-bad, maker-out-of-force, outside-period, seal-withdrawn, signer-bad, outside-dates, signer-revoked, digest-differs, stamp-bad, after-stamp, signer-out-at-stamp, bad-length}
-use Rattle.terms.specs.Answer.{Told, told-one, refusal, Row, asks, answers}
-use Rattle.terms.specs.Laws.Answer.{agreed}
+use Rattle.terms.specs.Answer.{Told, told-one, refusal}
+use Rattle.terms.specs.Laws.Table.{Row, asks, answers, agreed}
 use Rattle.contents.specs.Time.{notLater, momentIn, momentOf, written, isReal}
 use Rattle.records.specs.Samples.{recordS, recordD}
 use Rattle.records.specs.Examples.{evaluate}

@@ -13,7 +13,8 @@ use borrow.Author.Tests.{lt-ltb, le-ltb}
 use Rattle.terms.specs.Numbers.{left-over, no-item, too-many-items}
 use Rattle.terms.specs.Answer.{Res, good, fault, Got, pick, bind, need, enough, same}
 use Rattle.terms.specs.Laws.Answer.{clash, good-inj, test, by-bind, by-need}
-use Rattle.heads.specs.Head.{Cut, head, tlv, octets, before, seen, headAt}
+use Rattle.heads.specs.Head.{Cut, head, tlv, octets, before}
+use Rattle.heads.specs.Scan.{seen, headAt}
 use Rattle.heads.specs.Laws.Head.{head-back, length-tlv}
 use Rattle.heads.specs.declared.Seen.{Seen}
 use Rattle.heads.specs.declared.Seen.the-variants.{Item as At, Refused as Bad}

@@ -7,8 +7,7 @@ use mathlib.Core.Option.{Option, none, some}
 use mathlib.Core.List.{List, [], _∷_, _++_}
 use lib.Dec.{T, eqb, eqb→eq}
 use borrow.Author.Tests.{eq-eqb}
-use lib.IntN.{ℤ, pos, negsuc}
-use Rattle.terms.specs.Answer.{Res, good, fault, pick, bind, need, have, every, same, Told, gives, refuses, Row, asks, answers, sameWhole, sameWholes, sameTold, agree}
+use Rattle.terms.specs.Answer.{Res, good, fault, pick, bind, need, have, every, same}
 
 -- a refusal is no answer
 pub clash {ℓ} : {A : Type 0} {X : Type ℓ} {n p : ℕ} {a : A} → fault n p ≡ good a → X
@@ -99,32 +98,3 @@ pub need-eq : {A : Type 0} (t : Bool) (n p : ℕ) (r : Res A) → T t → need t
 unfolding need
 need-eq true n p r h = refl
 need-eq false n p r h = absurd h
-
--- ---- a table whose test is passed
-
-sameWhole-eq : (x y : ℤ) → T (sameWhole x y) → x ≡ y
-unfolding sameWhole
-sameWhole-eq (pos a) (pos b) h = ap pos (eqb→eq a b h)
-sameWhole-eq (pos a) (negsuc b) h = absurd h
-sameWhole-eq (negsuc a) (pos b) h = absurd h
-sameWhole-eq (negsuc a) (negsuc b) h = ap negsuc (eqb→eq a b h)
-
-sameWholes-eq : (xs ys : List ℤ) → T (sameWholes xs ys) → xs ≡ ys
-unfolding sameWholes
-sameWholes-eq [] [] h = refl
-sameWholes-eq [] (y ∷ ys) h = absurd h
-sameWholes-eq (x ∷ xs) [] h = absurd h
-sameWholes-eq (x ∷ xs) (y ∷ ys) h = ap₂ _∷_ (sameWhole-eq x y (and-l (sameWhole x y) (sameWholes xs ys) h)) (sameWholes-eq xs ys (and-r (sameWhole x y) (sameWholes xs ys) h))
-
-pub sameTold-eq : (x y : Told) → T (sameTold x y) → x ≡ y
-unfolding sameTold
-sameTold-eq (gives m xs) (gives n ys) h = ap₂ gives (eqb→eq m n (and-l (eqb m n) (sameWholes xs ys) h)) (sameWholes-eq xs ys (and-r (eqb m n) (sameWholes xs ys) h))
-sameTold-eq (gives m xs) (refuses n ys) h = absurd h
-sameTold-eq (refuses m xs) (gives n ys) h = absurd h
-sameTold-eq (refuses m xs) (refuses n ys) h = ap₂ refuses (eqb→eq m n (and-l (eqb m n) (sameWholes xs ys) h)) (sameWholes-eq xs ys (and-r (eqb m n) (sameWholes xs ys) h))
-
--- every answer is the one in its row
-pub agreed : (rows : List Row) → T (agree rows) → asks rows ≡ answers rows
-unfolding agree
-agreed [] h = refl
-agreed (x ∷ xs) h = ap₂ _∷_ (sameTold-eq (x .0) (x .1) (and-l (sameTold (x .0) (x .1)) (agree xs) h)) (agreed xs (and-r (sameTold (x .0) (x .1)) (agree xs) h))

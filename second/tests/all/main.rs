@@ -1,0 +1,9 @@
+//! The tests of the second program.
+
+mod asn1parse;
+mod cases;
+mod hand;
+mod numbers;
+mod paper;
+mod readings;
+mod round_trip;
