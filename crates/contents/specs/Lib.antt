@@ -4,5 +4,6 @@ pub mod Text
 pub mod Time
 pub mod Rules
 pub mod Leaves
+pub mod Scan
 pub mod Laws
 pub mod Examples

@@ -7,6 +7,7 @@ use Rattle.terms.specs.declared.Field.the-variants.{SealInformation, Header, Ve
 use Rattle.terms.specs.Numbers.{not-allowed, not-es, most-items}
 use Rattle.contents.specs.Content.{Leaf}
 use Rattle.contents.specs.Integer.{value, any, is, isKind, isMillimetres}
+use Rattle.contents.specs.Rules.{es, four}
 use Rattle.contents.specs.Leaves.{may-be-empty, needs-a-byte, integer, bitString, octetString, identifier, utf8String, printableString, ia5String, generalizedTime}
 use Rattle.layouts.specs.Layout.{Item, leaf, node, list, wrap, Run, end, _▸_, Member, known, one, maybe, flag, choose}
 use Rattle.layouts.specs.Whole.{sequence}
@@ -22,8 +23,8 @@ abbrev part : Field → Run → Member
 part f r = one f (node sequence r)
 
 -- "INTEGER 4"
-abbrev four : Member
-four = known (integer any) (4 ∷ []) not-allowed
+abbrev version : Member
+version = known (integer any) four not-allowed
 
 -- "[0] is explicit: A0 around one whole item."
 abbrev pub tagged-0 : Item → Item
@@ -33,7 +34,7 @@ tagged-0 i = wrap 0xA0 i
 
 -- "Header, SEQUENCE: IA5String "ES"; INTEGER 4; vendor, IA5String."
 abbrev pub header : Run
-header = known (ia5String needs-a-byte) (0x45 ∷ 0x53 ∷ []) not-es ▸ four ▸ field Vendor (ia5String may-be-empty) ▸ end
+header = known (ia5String needs-a-byte) es not-es ▸ version ▸ field Vendor (ia5String may-be-empty) ▸ end
 
 -- "Certificate list, SEQUENCE of 1 to 64 items. Kind 1: each a certificate, OCTET STRING."
 abbrev pub certificates : Item
@@ -79,7 +80,7 @@ seal = part SealInformation sealInformation ▸ field MakerCertificate (octetStr
 -- custom data, [0], optional."
 abbrev pub signedPart : Run
 signedPart =
-    four ▸ part Seal seal ▸ field SigningTime generalizedTime ▸ field OriginalDigest bitString ▸ field PropertyText (ia5String needs-a-byte)
+    version ▸ part Seal seal ▸ field SigningTime generalizedTime ▸ field OriginalDigest bitString ▸ field PropertyText (ia5String needs-a-byte)
     ▸ maybe SignedCustomData (tagged-0 (customData SignedCustomItem SignedCustomId SignedCustomCritical SignedCustomValue)) ▸ end
 
 -- "Signature record, SEQUENCE: signed part; signer certificate, OCTET STRING; algorithm; signature, BIT STRING; stamp, [0] BIT STRING, optional."
