@@ -1,0 +1,64 @@
+-- The steps of reading a head by positions: tag, length, and both together. Assumes nothing.
+use mathlib.Core.Path.{_≡_}
+use Prim.Native.Nat.{ℕ, _+_}
+use mathlib.Core.List.{List}
+use lib.Seq.{slice}
+use lib.Dec.{ltb}
+use Rattle.terms.specs.Answer.{Res, good, fault, pick}
+use Rattle.heads.specs.Head.{Size, size, opening, before}
+use Rattle.items.specs.declared.Tag.{Tag}
+use Rattle.items.specs.declared.Tag.the-variants.{Boolean, Integer, BitString, OctetString, Identifier, Utf8String, PrintableString, Ia5String, Time, Sequence, Context0}
+use Rattle.items.specs.declared.Tagged.{Tagged}
+use Rattle.items.specs.declared.Tagged.the-variants.{Known, Other}
+use Rattle.items.specs.declared.Form.{Form}
+use Rattle.items.specs.declared.Form.the-variants.{Short, OneByte, TwoBytes}
+use Rattle.items.specs.declared.Length.{Length}
+use Rattle.items.specs.declared.Length.the-variants.{Spelled, Bad}
+use Rattle.items.specs.declared.Opening.{Opening}
+use Rattle.items.specs.declared.Opening.the-variants.{Opened, Refused as Unopened}
+
+-- ---- tags
+
+abbrev pub tagByte : Tag → ℕ
+tagByte Boolean = 0x01
+tagByte Integer = 0x02
+tagByte BitString = 0x03
+tagByte OctetString = 0x04
+tagByte Identifier = 0x06
+tagByte Utf8String = 0x0C
+tagByte PrintableString = 0x13
+tagByte Ia5String = 0x16
+tagByte Time = 0x18
+tagByte Sequence = 0x30
+tagByte Context0 = 0xA0
+
+-- what is said of a byte is true of it
+abbrev pub Tells : ℕ → Tagged → Type 0
+Tells b (Known t) = b ≡ tagByte t
+Tells b Other = (t : Tag) → b ≡ tagByte t → ⊥
+
+-- ---- windows
+
+-- no window goes past the slice
+unfoldable pub clamp : ℕ → ℕ → ℕ
+clamp e n = pick (ltb e n) e n
+
+-- ---- lengths and heads
+
+unfoldable pub formOf : ℕ → Form
+formOf n = pick (ltb n 128) Short (pick (ltb n 256) OneByte TwoBytes)
+
+abbrev pub spelled : Res Size → Length
+spelled (good z) = Spelled (formOf (z .0)) (before (z .0)) (z .0)
+spelled (fault n p) = Bad
+
+-- the length of the item whose tag stands at `p`
+unfoldable pub lengthAt : List ℕ → ℕ → ℕ → Length
+lengthAt s p e = spelled (size p (slice (p + 1) e s))
+
+abbrev pub opened : Res Size → Opening
+opened (good z) = Opened (before (z .0)) (z .0)
+opened (fault n p) = Unopened n p
+
+unfoldable pub openingAt : ℕ → List ℕ → ℕ → ℕ → Opening
+openingAt t s p e = opened (opening t (slice p e s) p)

@@ -1,0 +1,244 @@
+// An item's head: its tag and its length, and where its content lies.
+ghost use mathlib.Core.Path.{_≡_};
+ghost use Prim.Native.Nat.{_+_, _*_, _≤_, _<_};
+ghost use lib.ListN.{length, getD};
+ghost use Rattle.items.specs.Scan.{tagByte, Tells, clamp, lengthAt, openingAt};
+ghost use Rattle.heads.specs.Scan.{headAt, outermostAt};
+ghost use Rattle.items.specs.Laws.Scan.{refusalOf, roomAt};
+use heads::Seen;
+
+// The tags of the rules.
+pub enum Tag {
+    Boolean,
+    Integer,
+    BitString,
+    OctetString,
+    Identifier,
+    Utf8String,
+    PrintableString,
+    Ia5String,
+    Time,
+    Sequence,
+    Context0,
+}
+
+// What a tag byte is: one of the rules' tags, or another.
+pub enum Tagged {
+    Known(Tag),
+    Other,
+}
+
+// How a length is spelled: in its one byte, or in one or two bytes after 81 or 82.
+pub enum Form {
+    Short,
+    OneByte,
+    TwoBytes,
+}
+
+// A length: its form, the bytes of tag and length together, and the bytes of the content.
+pub enum Length {
+    Spelled {
+        form: Form,
+        header: usize,
+        content: usize,
+    },
+    Bad,
+}
+
+// A tag and a length that were read: the bytes of both together and those of the content, or the refusal's number and place.
+pub enum Opening {
+    Opened(usize, usize),
+    Refused(u8, usize),
+}
+
+// The byte of a tag.
+pub fn tag_byte(t: Tag) -> u8
+    ensures { λ r. ⌜ r ≡ tagByte t ⌝ }
+{
+    match t {
+        Tag::Boolean => 0x01,
+        Tag::Integer => 0x02,
+        Tag::BitString => 0x03,
+        Tag::OctetString => 0x04,
+        Tag::Identifier => 0x06,
+        Tag::Utf8String => 0x0c,
+        Tag::PrintableString => 0x13,
+        Tag::Ia5String => 0x16,
+        Tag::Time => 0x18,
+        Tag::Sequence => 0x30,
+        Tag::Context0 => 0xa0,
+    }
+}
+
+// The tag of a byte.
+pub fn tag_of(b: u8) -> Tagged
+    ensures { λ r. ⌜ Tells b r ⌝ }
+{
+    match b {
+        0x01 => Tagged::Known(Tag::Boolean),
+        0x02 => Tagged::Known(Tag::Integer),
+        0x03 => Tagged::Known(Tag::BitString),
+        0x04 => Tagged::Known(Tag::OctetString),
+        0x06 => Tagged::Known(Tag::Identifier),
+        0x0c => Tagged::Known(Tag::Utf8String),
+        0x13 => Tagged::Known(Tag::PrintableString),
+        0x16 => Tagged::Known(Tag::Ia5String),
+        0x18 => Tagged::Known(Tag::Time),
+        0x30 => Tagged::Known(Tag::Sequence),
+        0xa0 => Tagged::Known(Tag::Context0),
+        _ => Tagged::Other,
+    }
+}
+
+// A byte as a length.
+fn wide(b: u8) -> usize
+    ensures { λ r. ⌜ (r ≡ b) × (r < 256) ⌝ }
+{
+    b as usize
+}
+
+// The nearer of two ends.
+fn nearer(end: usize, n: usize) -> usize
+    ensures { λ r. ⌜ r ≡ clamp end n ⌝ }
+{
+    if end < n { end } else { n }
+}
+
+// A length in one byte after 81, from 128 on.
+fn one_byte(s: &[u8], at: usize, end: usize) -> Length
+    requires { ⌜ at + 2 ≤ end ⌝ }
+    requires { ⌜ end ≤ length (now s) ⌝ }
+    requires { ⌜ getD (now s) (at + 1) 0 ≡ 0x81 ⌝ }
+    ensures { λ r. ⌜ r ≡ lengthAt (now (s .entry)) at end ⌝ }
+{
+    if end - at < 3 {
+        return Length::Bad;
+    }
+    let n = wide(s[at + 2]);
+    if n < 128 {
+        return Length::Bad;
+    }
+    Length::Spelled {
+        form: Form::OneByte,
+        header: 3,
+        content: n,
+    }
+}
+
+// A length in two bytes after 82, from 256 on.
+fn two_bytes(s: &[u8], at: usize, end: usize) -> Length
+    requires { ⌜ at + 2 ≤ end ⌝ }
+    requires { ⌜ end ≤ length (now s) ⌝ }
+    requires { ⌜ getD (now s) (at + 1) 0 ≡ 0x82 ⌝ }
+    ensures { λ r. ⌜ r ≡ lengthAt (now (s .entry)) at end ⌝ }
+{
+    if end - at < 4 {
+        return Length::Bad;
+    }
+    let high = wide(s[at + 2]);
+    let low = wide(s[at + 3]);
+    let n = high * 256 + low;
+    if n < 256 {
+        return Length::Bad;
+    }
+    Length::Spelled {
+        form: Form::TwoBytes,
+        header: 4,
+        content: n,
+    }
+}
+
+// The length of the item whose tag stands at a position: its form, its header and its content by the byte after the tag.
+fn length_at(s: &[u8], at: usize, end: usize) -> Length
+    requires { ⌜ (at < end) × (end ≤ length (now s)) ⌝ }
+    ensures { λ r. ⌜ r ≡ lengthAt (now (s .entry)) at end ⌝ }
+{
+    if end - at < 2 {
+        return Length::Bad;
+    }
+    let b = s[at + 1];
+    match b {
+        0x00..=0x7f => Length::Spelled {
+            form: Form::Short,
+            header: 2,
+            content: wide(b),
+        },
+        0x81 => one_byte(s, at, end),
+        0x82 => two_bytes(s, at, end),
+        _ => Length::Bad,
+    }
+}
+
+// Tag and length of the item at a position: 1, 2 or 3.
+fn open(s: &[u8], tag: Tag, at: usize, end: usize) -> Opening
+    requires { ⌜ end ≤ length (now s) ⌝ }
+    ensures { λ r. ⌜ r ≡ openingAt (tagByte tag) (now (s .entry)) at end ⌝ }
+{
+    if end <= at {
+        return Opening::Refused(1, at);
+    }
+    let Tagged::Known(found) = tag_of(s[at]) else {
+        return Opening::Refused(2, at);
+    };
+    if tag_byte(found) != tag_byte(tag) {
+        return Opening::Refused(2, at);
+    }
+    let Length::Spelled {
+        form: _,
+        header,
+        content,
+    } = length_at(s, at, end)
+    else {
+        return Opening::Refused(3, at);
+    };
+    Opening::Opened(header, content)
+}
+
+// The refusal of an item that was not opened.
+fn unopened(o: Opening) -> Seen
+    ensures { λ r. ⌜ r ≡ refusalOf o ⌝ }
+{
+    match o {
+        Opening::Opened(header, content) => Seen::Item(header, content),
+        Opening::Refused(number, place) => Seen::Refused(number, place),
+    }
+}
+
+// The content behind a header, if it ends by the encloser's end: 4.
+fn room(at: usize, header: usize, content: usize, end: usize) -> Seen
+    requires { ⌜ at + header ≤ end ⌝ }
+    ensures { λ r. ⌜ r ≡ roomAt at header content end ⌝ }
+{
+    let start = at + header;
+    if end - start < content {
+        return Seen::Refused(4, at);
+    }
+    Seen::Item(start, start + content)
+}
+
+// The item of a tag at a position, up to the encloser's end: where its content lies, or 1, 2, 3 or 4.
+pub fn head(s: &[u8], tag: Tag, at: usize, end: usize) -> Seen
+    ensures { λ r. ⌜ r ≡ headAt (tagByte tag) (now (s .entry)) at end ⌝ }
+{
+    let stop = nearer(end, s.len());
+    let o = open(s, tag, at, stop);
+    let Opening::Opened(header, content) = o else {
+        return unopened(o);
+    };
+    room(at, header, content, stop)
+}
+
+// The outermost item, of at most `most` bytes with its header: 17 stands between 3 and 4.
+pub fn outermost(s: &[u8], most: usize, tag: Tag, at: usize, end: usize) -> Seen
+    ensures { λ r. ⌜ r ≡ outermostAt most (tagByte tag) (now (s .entry)) at end ⌝ }
+{
+    let stop = nearer(end, s.len());
+    let o = open(s, tag, at, stop);
+    let Opening::Opened(header, content) = o else {
+        return unopened(o);
+    };
+    if most < header + content {
+        return Seen::Refused(17, at);
+    }
+    room(at, header, content, stop)
+}
