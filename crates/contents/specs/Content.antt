@@ -3,9 +3,10 @@ use mathlib.Core.Path.{_≡_}
 use Prim.Native.Nat.{ℕ, _+_, _≤_}
 use mathlib.Core.Bool.{Bool, true, false}
 use mathlib.Core.Option.{Option, some}
-use mathlib.Core.List.{List}
+use mathlib.Core.List.{List, []}
 use lib.ListN.{length}
-use Rattle.terms.specs.Answer.{Res, fault}
+use Rattle.terms.specs.Numbers.{done}
+use Rattle.terms.specs.Answer.{Res, fault, Told, refuses, told-none}
 
 -- where a rule points: the item's tag, or a byte of its content, its end allowed
 pub data Spot : Type 0 where
@@ -21,6 +22,11 @@ pub data Check : Type 0 where
 unfoldable pub ask : Bool → ℕ → Check → Check
 ask true n k = k
 ask false n k = wrong n tag
+
+-- a rule's answer in the paper's terms; its place is the reader's to say
+abbrev pub toldCheck : Check → Told
+toldCheck fine = told-none done
+toldCheck (wrong n x) = refuses n []
 
 unfoldable pub passes : Check → Bool
 passes fine = true

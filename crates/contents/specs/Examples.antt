@@ -1,15 +1,15 @@
 -- Every class of damage to a content is refused with its number, and the edges beside it are taken. Assumes nothing.
 use mathlib.Core.Path.{_≡_, refl}
-use Prim.Native.Nat.{ℕ, _+_, _-_, _^_}
+use Prim.Native.Nat.{ℕ, _-_, _^_}
 use mathlib.Core.Bool.{Bool, true, false}
 use mathlib.Core.List.{List, [], _∷_, _++_}
 use lib.ListN.{replicate}
 use lib.IntN.{ℤ, pos, negsuc}
 use Rattle.terms.specs.Numbers.{done, bad-integer, not-allowed, bad-character, bad-time, bad-identifier, bad-bits, bad-boolean, no-bytes}
-use Rattle.terms.specs.Answer.{pick, bind, need, every, enough, same, Told, told-none, told-one}
+use Rattle.terms.specs.Answer.{pick, bind, need, every, enough, same, Told, refuses, told-none}
 use Rattle.terms.specs.Digits.{digits, numberFrom}
 use Rattle.terms.specs.Laws.Table.{Row, asks, answers, sameWhole, sameWholes, sameTold, agree, agreed}
-use Rattle.contents.specs.Content.{Spot, tag, inside, Check, fine, wrong, ask, passes}
+use Rattle.contents.specs.Content.{toldCheck, ask, passes}
 use Rattle.contents.specs.Integer.{sign, shortest, wellFormed, turned, value, eight, shrink, contentOf, any, isKind, isMillimetres}
 use Rattle.contents.specs.Text.{within, starts, follows, textFrom, ia5, printable, utf8, partsFrom, isIdentifier}
 use Rattle.contents.specs.Time.{leap, monthLength, possible, isDigit, partFrom, zulu, timeFrom, timeCheck, timeRule, written, isReal}
@@ -20,223 +20,221 @@ evaluate : Unit {0}
 unfolding pick bind need every enough same sameWhole sameWholes sameTold agree digits numberFrom ask passes sign shortest wellFormed turned value eight shrink contentOf within starts follows textFrom partsFrom isIdentifier leap monthLength possible isDigit partFrom zulu timeFrom timeCheck timeRule written isReal integerRule stringRule octetsRule bitsRule identifierRule booleanRule
 evaluate = tt
 
--- a rule's answer: 0, or a refusal, here always at the tag
-abbrev told : Check → Told
-told fine = told-none done
-told (wrong n tag) = told-none n
-told (wrong n (inside k)) = told-one n k
+-- a rule that refuses with a number
+abbrev gets : ℕ → Told
+gets n = refuses n []
 
 -- 6: empty, over 8 bytes, not shortest; edges of 1 to 8 bytes are taken
 abbrev integers : List Row
 integers =
-    (told (integerRule any (0x00 ∷ [])), told-none done)
-    ∷ (told (integerRule any (0x80 ∷ [])), told-none done)
-    ∷ (told (integerRule any (0x7F ∷ [])), told-none done)
-    ∷ (told (integerRule any (0x00 ∷ 0x80 ∷ [])), told-none done)
-    ∷ (told (integerRule any (0xFF ∷ 0x7F ∷ [])), told-none done)
-    ∷ (told (integerRule any (0x80 ∷ 0x00 ∷ 0x00 ∷ 0x00 ∷ 0x00 ∷ 0x00 ∷ 0x00 ∷ 0x00 ∷ [])), told-none done)
-    ∷ (told (integerRule any (0x7F ∷ 0xFF ∷ 0xFF ∷ 0xFF ∷ 0xFF ∷ 0xFF ∷ 0xFF ∷ 0xFF ∷ [])), told-none done)
-    ∷ (told (integerRule any ([])), told-none bad-integer)
-    ∷ (told (integerRule any (0x00 ∷ 0x80 ∷ 0x00 ∷ 0x00 ∷ 0x00 ∷ 0x00 ∷ 0x00 ∷ 0x00 ∷ 0x00 ∷ [])), told-none bad-integer)
-    ∷ (told (integerRule any (0x00 ∷ 0x7F ∷ [])), told-none bad-integer)
-    ∷ (told (integerRule any (0xFF ∷ 0x80 ∷ [])), told-none bad-integer)
-    ∷ (told (integerRule any (0x00 ∷ 0x00 ∷ [])), told-none bad-integer)
-    ∷ (told (integerRule any (0xFF ∷ 0xFF ∷ [])), told-none bad-integer)
+    (toldCheck (integerRule any (0x00 ∷ [])), told-none done)
+    ∷ (toldCheck (integerRule any (0x80 ∷ [])), told-none done)
+    ∷ (toldCheck (integerRule any (0x7F ∷ [])), told-none done)
+    ∷ (toldCheck (integerRule any (0x00 ∷ 0x80 ∷ [])), told-none done)
+    ∷ (toldCheck (integerRule any (0xFF ∷ 0x7F ∷ [])), told-none done)
+    ∷ (toldCheck (integerRule any (0x80 ∷ 0x00 ∷ 0x00 ∷ 0x00 ∷ 0x00 ∷ 0x00 ∷ 0x00 ∷ 0x00 ∷ [])), told-none done)
+    ∷ (toldCheck (integerRule any (0x7F ∷ 0xFF ∷ 0xFF ∷ 0xFF ∷ 0xFF ∷ 0xFF ∷ 0xFF ∷ 0xFF ∷ [])), told-none done)
+    ∷ (toldCheck (integerRule any ([])), gets bad-integer)
+    ∷ (toldCheck (integerRule any (0x00 ∷ 0x80 ∷ 0x00 ∷ 0x00 ∷ 0x00 ∷ 0x00 ∷ 0x00 ∷ 0x00 ∷ 0x00 ∷ [])), gets bad-integer)
+    ∷ (toldCheck (integerRule any (0x00 ∷ 0x7F ∷ [])), gets bad-integer)
+    ∷ (toldCheck (integerRule any (0xFF ∷ 0x80 ∷ [])), gets bad-integer)
+    ∷ (toldCheck (integerRule any (0x00 ∷ 0x00 ∷ [])), gets bad-integer)
+    ∷ (toldCheck (integerRule any (0xFF ∷ 0xFF ∷ [])), gets bad-integer)
     ∷ []
 
 -- 7 by the list kind, after 6
 abbrev kinds : List Row
 kinds =
-    (told (integerRule isKind (0x01 ∷ [])), told-none done)
-    ∷ (told (integerRule isKind (0x02 ∷ [])), told-none done)
-    ∷ (told (integerRule isKind (0x00 ∷ [])), told-none not-allowed)
-    ∷ (told (integerRule isKind (0x03 ∷ [])), told-none not-allowed)
-    ∷ (told (integerRule isKind (0xFF ∷ [])), told-none not-allowed)
-    ∷ (told (integerRule isKind (0x00 ∷ 0x01 ∷ [])), told-none bad-integer)
-    ∷ (told (integerRule isKind (0x00 ∷ 0x05 ∷ [])), told-none bad-integer)
+    (toldCheck (integerRule isKind (0x01 ∷ [])), told-none done)
+    ∷ (toldCheck (integerRule isKind (0x02 ∷ [])), told-none done)
+    ∷ (toldCheck (integerRule isKind (0x00 ∷ [])), gets not-allowed)
+    ∷ (toldCheck (integerRule isKind (0x03 ∷ [])), gets not-allowed)
+    ∷ (toldCheck (integerRule isKind (0xFF ∷ [])), gets not-allowed)
+    ∷ (toldCheck (integerRule isKind (0x00 ∷ 0x01 ∷ [])), gets bad-integer)
+    ∷ (toldCheck (integerRule isKind (0x00 ∷ 0x05 ∷ [])), gets bad-integer)
     ∷ []
 
 -- 7 by the millimetres
 abbrev sizes : List Row
 sizes =
-    (told (integerRule isMillimetres (0x01 ∷ [])), told-none done)
-    ∷ (told (integerRule isMillimetres (0x00 ∷ 0xFF ∷ 0xFF ∷ [])), told-none done)
-    ∷ (told (integerRule isMillimetres (0x00 ∷ [])), told-none not-allowed)
-    ∷ (told (integerRule isMillimetres (0x01 ∷ 0x00 ∷ 0x00 ∷ [])), told-none not-allowed)
-    ∷ (told (integerRule isMillimetres (0xFF ∷ [])), told-none not-allowed)
-    ∷ (told (integerRule isMillimetres (0x80 ∷ 0x00 ∷ 0x00 ∷ 0x00 ∷ 0x00 ∷ 0x00 ∷ 0x00 ∷ 0x00 ∷ [])), told-none not-allowed)
+    (toldCheck (integerRule isMillimetres (0x01 ∷ [])), told-none done)
+    ∷ (toldCheck (integerRule isMillimetres (0x00 ∷ 0xFF ∷ 0xFF ∷ [])), told-none done)
+    ∷ (toldCheck (integerRule isMillimetres (0x00 ∷ [])), gets not-allowed)
+    ∷ (toldCheck (integerRule isMillimetres (0x01 ∷ 0x00 ∷ 0x00 ∷ [])), gets not-allowed)
+    ∷ (toldCheck (integerRule isMillimetres (0xFF ∷ [])), gets not-allowed)
+    ∷ (toldCheck (integerRule isMillimetres (0x80 ∷ 0x00 ∷ 0x00 ∷ 0x00 ∷ 0x00 ∷ 0x00 ∷ 0x00 ∷ 0x00 ∷ [])), gets not-allowed)
     ∷ []
 
 -- 9 by RFC 3629: overlong, surrogates, above 10FFFF, cut, a stray tail; every edge of its rows is taken
 abbrev names : List Row
 names =
-    (told (stringRule utf8 may-be-empty ([])), told-none done)
-    ∷ (told (stringRule utf8 may-be-empty (0xE5 ∷ 0x8D ∷ 0xB0 ∷ [])), told-none done)
-    ∷ (told (stringRule utf8 may-be-empty (0x00 ∷ 0x7F ∷ [])), told-none done)
-    ∷ (told (stringRule utf8 may-be-empty (0xC2 ∷ 0x80 ∷ 0xDF ∷ 0xBF ∷ [])), told-none done)
-    ∷ (told (stringRule utf8 may-be-empty (0xE0 ∷ 0xA0 ∷ 0x80 ∷ [])), told-none done)
-    ∷ (told (stringRule utf8 may-be-empty (0xED ∷ 0x9F ∷ 0xBF ∷ [])), told-none done)
-    ∷ (told (stringRule utf8 may-be-empty (0xEE ∷ 0x80 ∷ 0x80 ∷ 0xEF ∷ 0xBF ∷ 0xBF ∷ [])), told-none done)
-    ∷ (told (stringRule utf8 may-be-empty (0xF0 ∷ 0x90 ∷ 0x80 ∷ 0x80 ∷ [])), told-none done)
-    ∷ (told (stringRule utf8 may-be-empty (0xF4 ∷ 0x8F ∷ 0xBF ∷ 0xBF ∷ [])), told-none done)
-    ∷ (told (stringRule utf8 may-be-empty (0xEF ∷ 0xBB ∷ 0xBF ∷ [])), told-none done)
-    ∷ (told (stringRule utf8 may-be-empty (0xC0 ∷ 0x80 ∷ [])), told-none bad-character)
-    ∷ (told (stringRule utf8 may-be-empty (0xC1 ∷ 0xBF ∷ [])), told-none bad-character)
-    ∷ (told (stringRule utf8 may-be-empty (0xE0 ∷ 0x80 ∷ 0x80 ∷ [])), told-none bad-character)
-    ∷ (told (stringRule utf8 may-be-empty (0xE0 ∷ 0x9F ∷ 0xBF ∷ [])), told-none bad-character)
-    ∷ (told (stringRule utf8 may-be-empty (0xED ∷ 0xA0 ∷ 0x80 ∷ [])), told-none bad-character)
-    ∷ (told (stringRule utf8 may-be-empty (0xED ∷ 0xBF ∷ 0xBF ∷ [])), told-none bad-character)
-    ∷ (told (stringRule utf8 may-be-empty (0xF0 ∷ 0x8F ∷ 0xBF ∷ 0xBF ∷ [])), told-none bad-character)
-    ∷ (told (stringRule utf8 may-be-empty (0xF4 ∷ 0x90 ∷ 0x80 ∷ 0x80 ∷ [])), told-none bad-character)
-    ∷ (told (stringRule utf8 may-be-empty (0xF5 ∷ 0x80 ∷ 0x80 ∷ 0x80 ∷ [])), told-none bad-character)
-    ∷ (told (stringRule utf8 may-be-empty (0x80 ∷ [])), told-none bad-character)
-    ∷ (told (stringRule utf8 may-be-empty (0xFF ∷ [])), told-none bad-character)
-    ∷ (told (stringRule utf8 may-be-empty (0xE5 ∷ 0x8D ∷ [])), told-none bad-character)
-    ∷ (told (stringRule utf8 may-be-empty (0x41 ∷ 0xC2 ∷ [])), told-none bad-character)
-    ∷ (told (stringRule utf8 may-be-empty (0xE5 ∷ 0x8D ∷ 0x41 ∷ [])), told-none bad-character)
+    (toldCheck (stringRule utf8 may-be-empty ([])), told-none done)
+    ∷ (toldCheck (stringRule utf8 may-be-empty (0xE5 ∷ 0x8D ∷ 0xB0 ∷ [])), told-none done)
+    ∷ (toldCheck (stringRule utf8 may-be-empty (0x00 ∷ 0x7F ∷ [])), told-none done)
+    ∷ (toldCheck (stringRule utf8 may-be-empty (0xC2 ∷ 0x80 ∷ 0xDF ∷ 0xBF ∷ [])), told-none done)
+    ∷ (toldCheck (stringRule utf8 may-be-empty (0xE0 ∷ 0xA0 ∷ 0x80 ∷ [])), told-none done)
+    ∷ (toldCheck (stringRule utf8 may-be-empty (0xED ∷ 0x9F ∷ 0xBF ∷ [])), told-none done)
+    ∷ (toldCheck (stringRule utf8 may-be-empty (0xEE ∷ 0x80 ∷ 0x80 ∷ 0xEF ∷ 0xBF ∷ 0xBF ∷ [])), told-none done)
+    ∷ (toldCheck (stringRule utf8 may-be-empty (0xF0 ∷ 0x90 ∷ 0x80 ∷ 0x80 ∷ [])), told-none done)
+    ∷ (toldCheck (stringRule utf8 may-be-empty (0xF4 ∷ 0x8F ∷ 0xBF ∷ 0xBF ∷ [])), told-none done)
+    ∷ (toldCheck (stringRule utf8 may-be-empty (0xEF ∷ 0xBB ∷ 0xBF ∷ [])), told-none done)
+    ∷ (toldCheck (stringRule utf8 may-be-empty (0xC0 ∷ 0x80 ∷ [])), gets bad-character)
+    ∷ (toldCheck (stringRule utf8 may-be-empty (0xC1 ∷ 0xBF ∷ [])), gets bad-character)
+    ∷ (toldCheck (stringRule utf8 may-be-empty (0xE0 ∷ 0x80 ∷ 0x80 ∷ [])), gets bad-character)
+    ∷ (toldCheck (stringRule utf8 may-be-empty (0xE0 ∷ 0x9F ∷ 0xBF ∷ [])), gets bad-character)
+    ∷ (toldCheck (stringRule utf8 may-be-empty (0xED ∷ 0xA0 ∷ 0x80 ∷ [])), gets bad-character)
+    ∷ (toldCheck (stringRule utf8 may-be-empty (0xED ∷ 0xBF ∷ 0xBF ∷ [])), gets bad-character)
+    ∷ (toldCheck (stringRule utf8 may-be-empty (0xF0 ∷ 0x8F ∷ 0xBF ∷ 0xBF ∷ [])), gets bad-character)
+    ∷ (toldCheck (stringRule utf8 may-be-empty (0xF4 ∷ 0x90 ∷ 0x80 ∷ 0x80 ∷ [])), gets bad-character)
+    ∷ (toldCheck (stringRule utf8 may-be-empty (0xF5 ∷ 0x80 ∷ 0x80 ∷ 0x80 ∷ [])), gets bad-character)
+    ∷ (toldCheck (stringRule utf8 may-be-empty (0x80 ∷ [])), gets bad-character)
+    ∷ (toldCheck (stringRule utf8 may-be-empty (0xFF ∷ [])), gets bad-character)
+    ∷ (toldCheck (stringRule utf8 may-be-empty (0xE5 ∷ 0x8D ∷ [])), gets bad-character)
+    ∷ (toldCheck (stringRule utf8 may-be-empty (0x41 ∷ 0xC2 ∷ [])), gets bad-character)
+    ∷ (toldCheck (stringRule utf8 may-be-empty (0xE5 ∷ 0x8D ∷ 0x41 ∷ [])), gets bad-character)
     ∷ []
 
 -- 9 by X.680: every other character is refused
 abbrev printables : List Row
 printables =
-    (told (stringRule printable may-be-empty ([])), told-none done)
-    ∷ (told (stringRule printable may-be-empty (0x41 ∷ 0x5A ∷ 0x61 ∷ 0x7A ∷ 0x30 ∷ 0x39 ∷ 0x20 ∷ 0x27 ∷ 0x28 ∷ 0x29 ∷ 0x2B ∷ 0x2C ∷ 0x2D ∷ 0x2E ∷ 0x2F ∷ 0x3A ∷ 0x3D ∷ 0x3F ∷ [])), told-none done)
-    ∷ (told (stringRule printable may-be-empty (0x2A ∷ [])), told-none bad-character)
-    ∷ (told (stringRule printable may-be-empty (0x40 ∷ [])), told-none bad-character)
-    ∷ (told (stringRule printable may-be-empty (0x26 ∷ [])), told-none bad-character)
-    ∷ (told (stringRule printable may-be-empty (0x5F ∷ [])), told-none bad-character)
-    ∷ (told (stringRule printable may-be-empty (0x21 ∷ [])), told-none bad-character)
-    ∷ (told (stringRule printable may-be-empty (0x22 ∷ [])), told-none bad-character)
-    ∷ (told (stringRule printable may-be-empty (0x3B ∷ [])), told-none bad-character)
-    ∷ (told (stringRule printable may-be-empty (0x3C ∷ [])), told-none bad-character)
-    ∷ (told (stringRule printable may-be-empty (0x3E ∷ [])), told-none bad-character)
-    ∷ (told (stringRule printable may-be-empty (0x5B ∷ [])), told-none bad-character)
-    ∷ (told (stringRule printable may-be-empty (0x60 ∷ [])), told-none bad-character)
-    ∷ (told (stringRule printable may-be-empty (0x7B ∷ [])), told-none bad-character)
-    ∷ (told (stringRule printable may-be-empty (0x23 ∷ [])), told-none bad-character)
-    ∷ (told (stringRule printable may-be-empty (0x24 ∷ [])), told-none bad-character)
-    ∷ (told (stringRule printable may-be-empty (0x25 ∷ [])), told-none bad-character)
-    ∷ (told (stringRule printable may-be-empty (0x5E ∷ [])), told-none bad-character)
-    ∷ (told (stringRule printable may-be-empty (0x7C ∷ [])), told-none bad-character)
-    ∷ (told (stringRule printable may-be-empty (0x7E ∷ [])), told-none bad-character)
-    ∷ (told (stringRule printable may-be-empty (0x5C ∷ [])), told-none bad-character)
-    ∷ (told (stringRule printable may-be-empty (0x7F ∷ [])), told-none bad-character)
-    ∷ (told (stringRule printable may-be-empty (0x80 ∷ [])), told-none bad-character)
+    (toldCheck (stringRule printable may-be-empty ([])), told-none done)
+    ∷ (toldCheck (stringRule printable may-be-empty (0x41 ∷ 0x5A ∷ 0x61 ∷ 0x7A ∷ 0x30 ∷ 0x39 ∷ 0x20 ∷ 0x27 ∷ 0x28 ∷ 0x29 ∷ 0x2B ∷ 0x2C ∷ 0x2D ∷ 0x2E ∷ 0x2F ∷ 0x3A ∷ 0x3D ∷ 0x3F ∷ [])), told-none done)
+    ∷ (toldCheck (stringRule printable may-be-empty (0x2A ∷ [])), gets bad-character)
+    ∷ (toldCheck (stringRule printable may-be-empty (0x40 ∷ [])), gets bad-character)
+    ∷ (toldCheck (stringRule printable may-be-empty (0x26 ∷ [])), gets bad-character)
+    ∷ (toldCheck (stringRule printable may-be-empty (0x5F ∷ [])), gets bad-character)
+    ∷ (toldCheck (stringRule printable may-be-empty (0x21 ∷ [])), gets bad-character)
+    ∷ (toldCheck (stringRule printable may-be-empty (0x22 ∷ [])), gets bad-character)
+    ∷ (toldCheck (stringRule printable may-be-empty (0x3B ∷ [])), gets bad-character)
+    ∷ (toldCheck (stringRule printable may-be-empty (0x3C ∷ [])), gets bad-character)
+    ∷ (toldCheck (stringRule printable may-be-empty (0x3E ∷ [])), gets bad-character)
+    ∷ (toldCheck (stringRule printable may-be-empty (0x5B ∷ [])), gets bad-character)
+    ∷ (toldCheck (stringRule printable may-be-empty (0x60 ∷ [])), gets bad-character)
+    ∷ (toldCheck (stringRule printable may-be-empty (0x7B ∷ [])), gets bad-character)
+    ∷ (toldCheck (stringRule printable may-be-empty (0x23 ∷ [])), gets bad-character)
+    ∷ (toldCheck (stringRule printable may-be-empty (0x24 ∷ [])), gets bad-character)
+    ∷ (toldCheck (stringRule printable may-be-empty (0x25 ∷ [])), gets bad-character)
+    ∷ (toldCheck (stringRule printable may-be-empty (0x5E ∷ [])), gets bad-character)
+    ∷ (toldCheck (stringRule printable may-be-empty (0x7C ∷ [])), gets bad-character)
+    ∷ (toldCheck (stringRule printable may-be-empty (0x7E ∷ [])), gets bad-character)
+    ∷ (toldCheck (stringRule printable may-be-empty (0x5C ∷ [])), gets bad-character)
+    ∷ (toldCheck (stringRule printable may-be-empty (0x7F ∷ [])), gets bad-character)
+    ∷ (toldCheck (stringRule printable may-be-empty (0x80 ∷ [])), gets bad-character)
     ∷ []
 
 -- 9 above 7F
 abbrev ia5s : List Row
 ia5s =
-    (told (stringRule ia5 may-be-empty (0x00 ∷ [])), told-none done)
-    ∷ (told (stringRule ia5 may-be-empty (0x7F ∷ [])), told-none done)
-    ∷ (told (stringRule ia5 may-be-empty (0x80 ∷ [])), told-none bad-character)
-    ∷ (told (stringRule ia5 may-be-empty (0x41 ∷ 0xFF ∷ [])), told-none bad-character)
+    (toldCheck (stringRule ia5 may-be-empty (0x00 ∷ [])), told-none done)
+    ∷ (toldCheck (stringRule ia5 may-be-empty (0x7F ∷ [])), told-none done)
+    ∷ (toldCheck (stringRule ia5 may-be-empty (0x80 ∷ [])), gets bad-character)
+    ∷ (toldCheck (stringRule ia5 may-be-empty (0x41 ∷ 0xFF ∷ [])), gets bad-character)
     ∷ []
 
 -- 14: no bytes where some are needed, before 9
 abbrev empties : List Row
 empties =
-    (told (stringRule ia5 needs-a-byte (0x41 ∷ [])), told-none done)
-    ∷ (told (stringRule ia5 needs-a-byte ([])), told-none no-bytes)
-    ∷ (told (stringRule ia5 needs-a-byte (0x80 ∷ [])), told-none bad-character)
+    (toldCheck (stringRule ia5 needs-a-byte (0x41 ∷ [])), told-none done)
+    ∷ (toldCheck (stringRule ia5 needs-a-byte ([])), gets no-bytes)
+    ∷ (toldCheck (stringRule ia5 needs-a-byte (0x80 ∷ [])), gets bad-character)
     ∷ []
 
 -- 14 of an OCTET STRING
 abbrev octets : List Row
 octets =
-    (told (octetsRule needs-a-byte (0x00 ∷ [])), told-none done)
-    ∷ (told (octetsRule needs-a-byte ([])), told-none no-bytes)
+    (toldCheck (octetsRule needs-a-byte (0x00 ∷ [])), told-none done)
+    ∷ (toldCheck (octetsRule needs-a-byte ([])), gets no-bytes)
     ∷ []
 
 -- a value that may have no bytes
 abbrev values : List Row
 values =
-    (told (octetsRule may-be-empty ([])), told-none done)
-    ∷ (told (octetsRule may-be-empty (0xFF ∷ [])), told-none done)
+    (toldCheck (octetsRule may-be-empty ([])), told-none done)
+    ∷ (toldCheck (octetsRule may-be-empty (0xFF ∷ [])), told-none done)
     ∷ []
 
 -- 12 before 14
 abbrev bitStrings : List Row
 bitStrings =
-    (told (bitsRule (0x00 ∷ 0xCC ∷ [])), told-none done)
-    ∷ (told (bitsRule (0x00 ∷ 0x00 ∷ [])), told-none done)
-    ∷ (told (bitsRule ([])), told-none bad-bits)
-    ∷ (told (bitsRule (0x01 ∷ [])), told-none bad-bits)
-    ∷ (told (bitsRule (0x08 ∷ 0xCC ∷ [])), told-none bad-bits)
-    ∷ (told (bitsRule (0x00 ∷ [])), told-none no-bytes)
+    (toldCheck (bitsRule (0x00 ∷ 0xCC ∷ [])), told-none done)
+    ∷ (toldCheck (bitsRule (0x00 ∷ 0x00 ∷ [])), told-none done)
+    ∷ (toldCheck (bitsRule ([])), gets bad-bits)
+    ∷ (toldCheck (bitsRule (0x01 ∷ [])), gets bad-bits)
+    ∷ (toldCheck (bitsRule (0x08 ∷ 0xCC ∷ [])), gets bad-bits)
+    ∷ (toldCheck (bitsRule (0x00 ∷ [])), gets no-bytes)
     ∷ []
 
 -- 13: FF alone
 abbrev booleans : List Row
 booleans =
-    (told (booleanRule (0xFF ∷ [])), told-none done)
-    ∷ (told (booleanRule (0x00 ∷ [])), told-none bad-boolean)
-    ∷ (told (booleanRule (0x01 ∷ [])), told-none bad-boolean)
-    ∷ (told (booleanRule ([])), told-none bad-boolean)
-    ∷ (told (booleanRule (0xFF ∷ 0xFF ∷ [])), told-none bad-boolean)
+    (toldCheck (booleanRule (0xFF ∷ [])), told-none done)
+    ∷ (toldCheck (booleanRule (0x00 ∷ [])), gets bad-boolean)
+    ∷ (toldCheck (booleanRule (0x01 ∷ [])), gets bad-boolean)
+    ∷ (toldCheck (booleanRule ([])), gets bad-boolean)
+    ∷ (toldCheck (booleanRule (0xFF ∷ 0xFF ∷ [])), gets bad-boolean)
     ∷ []
 
 -- 11: empty, 65 bytes, a part that begins with 80, a last byte of 80 or above
 abbrev identifiers : List Row
 identifiers =
-    (told (identifierRule (0x2A ∷ 0x81 ∷ 0x1C ∷ 0xCF ∷ 0x55 ∷ 0x01 ∷ 0x83 ∷ 0x75 ∷ [])), told-none done)
-    ∷ (told (identifierRule (0x00 ∷ [])), told-none done)
-    ∷ (told (identifierRule (0x2A ∷ 0x81 ∷ 0x00 ∷ [])), told-none done)
-    ∷ (told (identifierRule (replicate 64 0x2A)), told-none done)
-    ∷ (told (identifierRule ([])), told-none bad-identifier)
-    ∷ (told (identifierRule (replicate 65 0x2A)), told-none bad-identifier)
-    ∷ (told (identifierRule (0x2A ∷ 0x80 ∷ 0x01 ∷ [])), told-none bad-identifier)
-    ∷ (told (identifierRule (0x80 ∷ 0x01 ∷ [])), told-none bad-identifier)
-    ∷ (told (identifierRule (0x2A ∷ 0x81 ∷ [])), told-none bad-identifier)
-    ∷ (told (identifierRule (0x81 ∷ [])), told-none bad-identifier)
-    ∷ (told (identifierRule (0x2A ∷ 0x81 ∷ 0x80 ∷ [])), told-none bad-identifier)
+    (toldCheck (identifierRule (0x2A ∷ 0x81 ∷ 0x1C ∷ 0xCF ∷ 0x55 ∷ 0x01 ∷ 0x83 ∷ 0x75 ∷ [])), told-none done)
+    ∷ (toldCheck (identifierRule (0x00 ∷ [])), told-none done)
+    ∷ (toldCheck (identifierRule (0x2A ∷ 0x81 ∷ 0x00 ∷ [])), told-none done)
+    ∷ (toldCheck (identifierRule (replicate 64 0x2A)), told-none done)
+    ∷ (toldCheck (identifierRule ([])), gets bad-identifier)
+    ∷ (toldCheck (identifierRule (replicate 65 0x2A)), gets bad-identifier)
+    ∷ (toldCheck (identifierRule (0x2A ∷ 0x80 ∷ 0x01 ∷ [])), gets bad-identifier)
+    ∷ (toldCheck (identifierRule (0x80 ∷ 0x01 ∷ [])), gets bad-identifier)
+    ∷ (toldCheck (identifierRule (0x2A ∷ 0x81 ∷ [])), gets bad-identifier)
+    ∷ (toldCheck (identifierRule (0x81 ∷ [])), gets bad-identifier)
+    ∷ (toldCheck (identifierRule (0x2A ∷ 0x81 ∷ 0x80 ∷ [])), gets bad-identifier)
     ∷ []
 
 -- 10: the Gregorian rule, hours, minutes and seconds, another length, another character
 abbrev times : List Row
 times =
-    (told (timeRule (0x32 ∷ 0x30 ∷ 0x30 ∷ 0x30 ∷ 0x30 ∷ 0x32 ∷ 0x32 ∷ 0x39 ∷ 0x30 ∷ 0x30 ∷ 0x30 ∷ 0x30 ∷ 0x30 ∷ 0x30 ∷ 0x5A ∷ [])), told-none done)
-    ∷ (told (timeRule (0x30 ∷ 0x30 ∷ 0x30 ∷ 0x30 ∷ 0x30 ∷ 0x32 ∷ 0x32 ∷ 0x39 ∷ 0x30 ∷ 0x30 ∷ 0x30 ∷ 0x30 ∷ 0x30 ∷ 0x30 ∷ 0x5A ∷ [])), told-none done)
-    ∷ (told (timeRule (0x32 ∷ 0x30 ∷ 0x32 ∷ 0x34 ∷ 0x30 ∷ 0x32 ∷ 0x32 ∷ 0x39 ∷ 0x32 ∷ 0x33 ∷ 0x35 ∷ 0x39 ∷ 0x35 ∷ 0x39 ∷ 0x5A ∷ [])), told-none done)
-    ∷ (told (timeRule (0x39 ∷ 0x39 ∷ 0x39 ∷ 0x39 ∷ 0x31 ∷ 0x32 ∷ 0x33 ∷ 0x31 ∷ 0x32 ∷ 0x33 ∷ 0x35 ∷ 0x39 ∷ 0x35 ∷ 0x39 ∷ 0x5A ∷ [])), told-none done)
-    ∷ (told (timeRule (0x30 ∷ 0x30 ∷ 0x30 ∷ 0x30 ∷ 0x30 ∷ 0x31 ∷ 0x30 ∷ 0x31 ∷ 0x30 ∷ 0x30 ∷ 0x30 ∷ 0x30 ∷ 0x30 ∷ 0x30 ∷ 0x5A ∷ [])), told-none done)
-    ∷ (told (timeRule (0x32 ∷ 0x30 ∷ 0x32 ∷ 0x33 ∷ 0x30 ∷ 0x31 ∷ 0x33 ∷ 0x31 ∷ 0x30 ∷ 0x30 ∷ 0x30 ∷ 0x30 ∷ 0x30 ∷ 0x30 ∷ 0x5A ∷ [])), told-none done)
-    ∷ (told (timeRule (0x32 ∷ 0x30 ∷ 0x32 ∷ 0x33 ∷ 0x30 ∷ 0x32 ∷ 0x32 ∷ 0x38 ∷ 0x30 ∷ 0x30 ∷ 0x30 ∷ 0x30 ∷ 0x30 ∷ 0x30 ∷ 0x5A ∷ [])), told-none done)
-    ∷ (told (timeRule (0x32 ∷ 0x30 ∷ 0x32 ∷ 0x33 ∷ 0x30 ∷ 0x33 ∷ 0x33 ∷ 0x31 ∷ 0x30 ∷ 0x30 ∷ 0x30 ∷ 0x30 ∷ 0x30 ∷ 0x30 ∷ 0x5A ∷ [])), told-none done)
-    ∷ (told (timeRule (0x32 ∷ 0x30 ∷ 0x32 ∷ 0x33 ∷ 0x30 ∷ 0x34 ∷ 0x33 ∷ 0x30 ∷ 0x30 ∷ 0x30 ∷ 0x30 ∷ 0x30 ∷ 0x30 ∷ 0x30 ∷ 0x5A ∷ [])), told-none done)
-    ∷ (told (timeRule (0x32 ∷ 0x30 ∷ 0x32 ∷ 0x33 ∷ 0x30 ∷ 0x35 ∷ 0x33 ∷ 0x31 ∷ 0x30 ∷ 0x30 ∷ 0x30 ∷ 0x30 ∷ 0x30 ∷ 0x30 ∷ 0x5A ∷ [])), told-none done)
-    ∷ (told (timeRule (0x32 ∷ 0x30 ∷ 0x32 ∷ 0x33 ∷ 0x30 ∷ 0x36 ∷ 0x33 ∷ 0x30 ∷ 0x30 ∷ 0x30 ∷ 0x30 ∷ 0x30 ∷ 0x30 ∷ 0x30 ∷ 0x5A ∷ [])), told-none done)
-    ∷ (told (timeRule (0x32 ∷ 0x30 ∷ 0x32 ∷ 0x33 ∷ 0x30 ∷ 0x37 ∷ 0x33 ∷ 0x31 ∷ 0x30 ∷ 0x30 ∷ 0x30 ∷ 0x30 ∷ 0x30 ∷ 0x30 ∷ 0x5A ∷ [])), told-none done)
-    ∷ (told (timeRule (0x32 ∷ 0x30 ∷ 0x32 ∷ 0x33 ∷ 0x30 ∷ 0x38 ∷ 0x33 ∷ 0x31 ∷ 0x30 ∷ 0x30 ∷ 0x30 ∷ 0x30 ∷ 0x30 ∷ 0x30 ∷ 0x5A ∷ [])), told-none done)
-    ∷ (told (timeRule (0x32 ∷ 0x30 ∷ 0x32 ∷ 0x33 ∷ 0x30 ∷ 0x39 ∷ 0x33 ∷ 0x30 ∷ 0x30 ∷ 0x30 ∷ 0x30 ∷ 0x30 ∷ 0x30 ∷ 0x30 ∷ 0x5A ∷ [])), told-none done)
-    ∷ (told (timeRule (0x32 ∷ 0x30 ∷ 0x32 ∷ 0x33 ∷ 0x31 ∷ 0x30 ∷ 0x33 ∷ 0x31 ∷ 0x30 ∷ 0x30 ∷ 0x30 ∷ 0x30 ∷ 0x30 ∷ 0x30 ∷ 0x5A ∷ [])), told-none done)
-    ∷ (told (timeRule (0x32 ∷ 0x30 ∷ 0x32 ∷ 0x33 ∷ 0x31 ∷ 0x31 ∷ 0x33 ∷ 0x30 ∷ 0x30 ∷ 0x30 ∷ 0x30 ∷ 0x30 ∷ 0x30 ∷ 0x30 ∷ 0x5A ∷ [])), told-none done)
-    ∷ (told (timeRule (0x32 ∷ 0x30 ∷ 0x32 ∷ 0x33 ∷ 0x31 ∷ 0x32 ∷ 0x33 ∷ 0x31 ∷ 0x30 ∷ 0x30 ∷ 0x30 ∷ 0x30 ∷ 0x30 ∷ 0x30 ∷ 0x5A ∷ [])), told-none done)
-    ∷ (told (timeRule (0x31 ∷ 0x39 ∷ 0x30 ∷ 0x30 ∷ 0x30 ∷ 0x32 ∷ 0x32 ∷ 0x39 ∷ 0x30 ∷ 0x30 ∷ 0x30 ∷ 0x30 ∷ 0x30 ∷ 0x30 ∷ 0x5A ∷ [])), told-none bad-time)
-    ∷ (told (timeRule (0x32 ∷ 0x30 ∷ 0x32 ∷ 0x33 ∷ 0x30 ∷ 0x32 ∷ 0x32 ∷ 0x39 ∷ 0x30 ∷ 0x30 ∷ 0x30 ∷ 0x30 ∷ 0x30 ∷ 0x30 ∷ 0x5A ∷ [])), told-none bad-time)
-    ∷ (told (timeRule (0x32 ∷ 0x31 ∷ 0x30 ∷ 0x30 ∷ 0x30 ∷ 0x32 ∷ 0x32 ∷ 0x39 ∷ 0x30 ∷ 0x30 ∷ 0x30 ∷ 0x30 ∷ 0x30 ∷ 0x30 ∷ 0x5A ∷ [])), told-none bad-time)
-    ∷ (told (timeRule (0x32 ∷ 0x30 ∷ 0x32 ∷ 0x34 ∷ 0x30 ∷ 0x32 ∷ 0x33 ∷ 0x30 ∷ 0x30 ∷ 0x30 ∷ 0x30 ∷ 0x30 ∷ 0x30 ∷ 0x30 ∷ 0x5A ∷ [])), told-none bad-time)
-    ∷ (told (timeRule (0x32 ∷ 0x30 ∷ 0x32 ∷ 0x33 ∷ 0x30 ∷ 0x34 ∷ 0x33 ∷ 0x31 ∷ 0x30 ∷ 0x30 ∷ 0x30 ∷ 0x30 ∷ 0x30 ∷ 0x30 ∷ 0x5A ∷ [])), told-none bad-time)
-    ∷ (told (timeRule (0x32 ∷ 0x30 ∷ 0x32 ∷ 0x33 ∷ 0x30 ∷ 0x36 ∷ 0x33 ∷ 0x31 ∷ 0x30 ∷ 0x30 ∷ 0x30 ∷ 0x30 ∷ 0x30 ∷ 0x30 ∷ 0x5A ∷ [])), told-none bad-time)
-    ∷ (told (timeRule (0x32 ∷ 0x30 ∷ 0x32 ∷ 0x33 ∷ 0x30 ∷ 0x39 ∷ 0x33 ∷ 0x31 ∷ 0x30 ∷ 0x30 ∷ 0x30 ∷ 0x30 ∷ 0x30 ∷ 0x30 ∷ 0x5A ∷ [])), told-none bad-time)
-    ∷ (told (timeRule (0x32 ∷ 0x30 ∷ 0x32 ∷ 0x33 ∷ 0x31 ∷ 0x31 ∷ 0x33 ∷ 0x31 ∷ 0x30 ∷ 0x30 ∷ 0x30 ∷ 0x30 ∷ 0x30 ∷ 0x30 ∷ 0x5A ∷ [])), told-none bad-time)
-    ∷ (told (timeRule (0x32 ∷ 0x30 ∷ 0x32 ∷ 0x33 ∷ 0x30 ∷ 0x31 ∷ 0x33 ∷ 0x32 ∷ 0x30 ∷ 0x30 ∷ 0x30 ∷ 0x30 ∷ 0x30 ∷ 0x30 ∷ 0x5A ∷ [])), told-none bad-time)
-    ∷ (told (timeRule (0x32 ∷ 0x30 ∷ 0x32 ∷ 0x33 ∷ 0x30 ∷ 0x31 ∷ 0x30 ∷ 0x30 ∷ 0x30 ∷ 0x30 ∷ 0x30 ∷ 0x30 ∷ 0x30 ∷ 0x30 ∷ 0x5A ∷ [])), told-none bad-time)
-    ∷ (told (timeRule (0x32 ∷ 0x30 ∷ 0x32 ∷ 0x33 ∷ 0x30 ∷ 0x30 ∷ 0x30 ∷ 0x31 ∷ 0x30 ∷ 0x30 ∷ 0x30 ∷ 0x30 ∷ 0x30 ∷ 0x30 ∷ 0x5A ∷ [])), told-none bad-time)
-    ∷ (told (timeRule (0x32 ∷ 0x30 ∷ 0x32 ∷ 0x33 ∷ 0x31 ∷ 0x33 ∷ 0x30 ∷ 0x31 ∷ 0x30 ∷ 0x30 ∷ 0x30 ∷ 0x30 ∷ 0x30 ∷ 0x30 ∷ 0x5A ∷ [])), told-none bad-time)
-    ∷ (told (timeRule (0x32 ∷ 0x30 ∷ 0x32 ∷ 0x33 ∷ 0x30 ∷ 0x31 ∷ 0x30 ∷ 0x31 ∷ 0x32 ∷ 0x34 ∷ 0x30 ∷ 0x30 ∷ 0x30 ∷ 0x30 ∷ 0x5A ∷ [])), told-none bad-time)
-    ∷ (told (timeRule (0x32 ∷ 0x30 ∷ 0x32 ∷ 0x33 ∷ 0x30 ∷ 0x31 ∷ 0x30 ∷ 0x31 ∷ 0x30 ∷ 0x30 ∷ 0x36 ∷ 0x30 ∷ 0x30 ∷ 0x30 ∷ 0x5A ∷ [])), told-none bad-time)
-    ∷ (told (timeRule (0x32 ∷ 0x30 ∷ 0x32 ∷ 0x33 ∷ 0x30 ∷ 0x31 ∷ 0x30 ∷ 0x31 ∷ 0x30 ∷ 0x30 ∷ 0x30 ∷ 0x30 ∷ 0x36 ∷ 0x30 ∷ 0x5A ∷ [])), told-none bad-time)
-    ∷ (told (timeRule (0x32 ∷ 0x30 ∷ 0x32 ∷ 0x33 ∷ 0x30 ∷ 0x31 ∷ 0x30 ∷ 0x31 ∷ 0x30 ∷ 0x30 ∷ 0x30 ∷ 0x30 ∷ 0x30 ∷ 0x30 ∷ [])), told-none bad-time)
-    ∷ (told (timeRule (0x32 ∷ 0x30 ∷ 0x32 ∷ 0x33 ∷ 0x30 ∷ 0x31 ∷ 0x30 ∷ 0x31 ∷ 0x30 ∷ 0x30 ∷ 0x30 ∷ 0x30 ∷ 0x30 ∷ 0x5A ∷ [])), told-none bad-time)
-    ∷ (told (timeRule (0x32 ∷ 0x30 ∷ 0x32 ∷ 0x33 ∷ 0x30 ∷ 0x31 ∷ 0x30 ∷ 0x31 ∷ 0x30 ∷ 0x30 ∷ 0x30 ∷ 0x30 ∷ 0x30 ∷ 0x30 ∷ 0x7A ∷ [])), told-none bad-time)
-    ∷ (told (timeRule (0x32 ∷ 0x30 ∷ 0x32 ∷ 0x33 ∷ 0x30 ∷ 0x31 ∷ 0x30 ∷ 0x31 ∷ 0x30 ∷ 0x30 ∷ 0x30 ∷ 0x30 ∷ 0x30 ∷ 0x30 ∷ 0x2B ∷ [])), told-none bad-time)
-    ∷ (told (timeRule (0x32 ∷ 0x30 ∷ 0x32 ∷ 0x33 ∷ 0x30 ∷ 0x31 ∷ 0x30 ∷ 0x31 ∷ 0x30 ∷ 0x30 ∷ 0x30 ∷ 0x30 ∷ 0x30 ∷ 0x30 ∷ 0x5A ∷ 0x5A ∷ [])), told-none bad-time)
-    ∷ (told (timeRule (0x32 ∷ 0x30 ∷ 0x32 ∷ 0x33 ∷ 0x30 ∷ 0x31 ∷ 0x30 ∷ 0x31 ∷ 0x30 ∷ 0x30 ∷ 0x30 ∷ 0x30 ∷ 0x30 ∷ 0x30 ∷ 0x2E ∷ 0x35 ∷ 0x5A ∷ [])), told-none bad-time)
-    ∷ (told (timeRule (0x32 ∷ 0x30 ∷ 0x32 ∷ 0x33 ∷ 0x30 ∷ 0x31 ∷ 0x30 ∷ 0x31 ∷ 0x30 ∷ 0x30 ∷ 0x30 ∷ 0x30 ∷ 0x30 ∷ 0x3A ∷ 0x5A ∷ [])), told-none bad-time)
-    ∷ (told (timeRule (0x32 ∷ 0x30 ∷ 0x32 ∷ 0x33 ∷ 0x30 ∷ 0x31 ∷ 0x30 ∷ 0x31 ∷ 0x30 ∷ 0x30 ∷ 0x30 ∷ 0x30 ∷ 0x30 ∷ 0x2F ∷ 0x5A ∷ [])), told-none bad-time)
-    ∷ (told (timeRule ([])), told-none bad-time)
-    ∷ (told (timeRule (0x5A ∷ [])), told-none bad-time)
+    (toldCheck (timeRule (0x32 ∷ 0x30 ∷ 0x30 ∷ 0x30 ∷ 0x30 ∷ 0x32 ∷ 0x32 ∷ 0x39 ∷ 0x30 ∷ 0x30 ∷ 0x30 ∷ 0x30 ∷ 0x30 ∷ 0x30 ∷ 0x5A ∷ [])), told-none done)
+    ∷ (toldCheck (timeRule (0x30 ∷ 0x30 ∷ 0x30 ∷ 0x30 ∷ 0x30 ∷ 0x32 ∷ 0x32 ∷ 0x39 ∷ 0x30 ∷ 0x30 ∷ 0x30 ∷ 0x30 ∷ 0x30 ∷ 0x30 ∷ 0x5A ∷ [])), told-none done)
+    ∷ (toldCheck (timeRule (0x32 ∷ 0x30 ∷ 0x32 ∷ 0x34 ∷ 0x30 ∷ 0x32 ∷ 0x32 ∷ 0x39 ∷ 0x32 ∷ 0x33 ∷ 0x35 ∷ 0x39 ∷ 0x35 ∷ 0x39 ∷ 0x5A ∷ [])), told-none done)
+    ∷ (toldCheck (timeRule (0x39 ∷ 0x39 ∷ 0x39 ∷ 0x39 ∷ 0x31 ∷ 0x32 ∷ 0x33 ∷ 0x31 ∷ 0x32 ∷ 0x33 ∷ 0x35 ∷ 0x39 ∷ 0x35 ∷ 0x39 ∷ 0x5A ∷ [])), told-none done)
+    ∷ (toldCheck (timeRule (0x30 ∷ 0x30 ∷ 0x30 ∷ 0x30 ∷ 0x30 ∷ 0x31 ∷ 0x30 ∷ 0x31 ∷ 0x30 ∷ 0x30 ∷ 0x30 ∷ 0x30 ∷ 0x30 ∷ 0x30 ∷ 0x5A ∷ [])), told-none done)
+    ∷ (toldCheck (timeRule (0x32 ∷ 0x30 ∷ 0x32 ∷ 0x33 ∷ 0x30 ∷ 0x31 ∷ 0x33 ∷ 0x31 ∷ 0x30 ∷ 0x30 ∷ 0x30 ∷ 0x30 ∷ 0x30 ∷ 0x30 ∷ 0x5A ∷ [])), told-none done)
+    ∷ (toldCheck (timeRule (0x32 ∷ 0x30 ∷ 0x32 ∷ 0x33 ∷ 0x30 ∷ 0x32 ∷ 0x32 ∷ 0x38 ∷ 0x30 ∷ 0x30 ∷ 0x30 ∷ 0x30 ∷ 0x30 ∷ 0x30 ∷ 0x5A ∷ [])), told-none done)
+    ∷ (toldCheck (timeRule (0x32 ∷ 0x30 ∷ 0x32 ∷ 0x33 ∷ 0x30 ∷ 0x33 ∷ 0x33 ∷ 0x31 ∷ 0x30 ∷ 0x30 ∷ 0x30 ∷ 0x30 ∷ 0x30 ∷ 0x30 ∷ 0x5A ∷ [])), told-none done)
+    ∷ (toldCheck (timeRule (0x32 ∷ 0x30 ∷ 0x32 ∷ 0x33 ∷ 0x30 ∷ 0x34 ∷ 0x33 ∷ 0x30 ∷ 0x30 ∷ 0x30 ∷ 0x30 ∷ 0x30 ∷ 0x30 ∷ 0x30 ∷ 0x5A ∷ [])), told-none done)
+    ∷ (toldCheck (timeRule (0x32 ∷ 0x30 ∷ 0x32 ∷ 0x33 ∷ 0x30 ∷ 0x35 ∷ 0x33 ∷ 0x31 ∷ 0x30 ∷ 0x30 ∷ 0x30 ∷ 0x30 ∷ 0x30 ∷ 0x30 ∷ 0x5A ∷ [])), told-none done)
+    ∷ (toldCheck (timeRule (0x32 ∷ 0x30 ∷ 0x32 ∷ 0x33 ∷ 0x30 ∷ 0x36 ∷ 0x33 ∷ 0x30 ∷ 0x30 ∷ 0x30 ∷ 0x30 ∷ 0x30 ∷ 0x30 ∷ 0x30 ∷ 0x5A ∷ [])), told-none done)
+    ∷ (toldCheck (timeRule (0x32 ∷ 0x30 ∷ 0x32 ∷ 0x33 ∷ 0x30 ∷ 0x37 ∷ 0x33 ∷ 0x31 ∷ 0x30 ∷ 0x30 ∷ 0x30 ∷ 0x30 ∷ 0x30 ∷ 0x30 ∷ 0x5A ∷ [])), told-none done)
+    ∷ (toldCheck (timeRule (0x32 ∷ 0x30 ∷ 0x32 ∷ 0x33 ∷ 0x30 ∷ 0x38 ∷ 0x33 ∷ 0x31 ∷ 0x30 ∷ 0x30 ∷ 0x30 ∷ 0x30 ∷ 0x30 ∷ 0x30 ∷ 0x5A ∷ [])), told-none done)
+    ∷ (toldCheck (timeRule (0x32 ∷ 0x30 ∷ 0x32 ∷ 0x33 ∷ 0x30 ∷ 0x39 ∷ 0x33 ∷ 0x30 ∷ 0x30 ∷ 0x30 ∷ 0x30 ∷ 0x30 ∷ 0x30 ∷ 0x30 ∷ 0x5A ∷ [])), told-none done)
+    ∷ (toldCheck (timeRule (0x32 ∷ 0x30 ∷ 0x32 ∷ 0x33 ∷ 0x31 ∷ 0x30 ∷ 0x33 ∷ 0x31 ∷ 0x30 ∷ 0x30 ∷ 0x30 ∷ 0x30 ∷ 0x30 ∷ 0x30 ∷ 0x5A ∷ [])), told-none done)
+    ∷ (toldCheck (timeRule (0x32 ∷ 0x30 ∷ 0x32 ∷ 0x33 ∷ 0x31 ∷ 0x31 ∷ 0x33 ∷ 0x30 ∷ 0x30 ∷ 0x30 ∷ 0x30 ∷ 0x30 ∷ 0x30 ∷ 0x30 ∷ 0x5A ∷ [])), told-none done)
+    ∷ (toldCheck (timeRule (0x32 ∷ 0x30 ∷ 0x32 ∷ 0x33 ∷ 0x31 ∷ 0x32 ∷ 0x33 ∷ 0x31 ∷ 0x30 ∷ 0x30 ∷ 0x30 ∷ 0x30 ∷ 0x30 ∷ 0x30 ∷ 0x5A ∷ [])), told-none done)
+    ∷ (toldCheck (timeRule (0x31 ∷ 0x39 ∷ 0x30 ∷ 0x30 ∷ 0x30 ∷ 0x32 ∷ 0x32 ∷ 0x39 ∷ 0x30 ∷ 0x30 ∷ 0x30 ∷ 0x30 ∷ 0x30 ∷ 0x30 ∷ 0x5A ∷ [])), gets bad-time)
+    ∷ (toldCheck (timeRule (0x32 ∷ 0x30 ∷ 0x32 ∷ 0x33 ∷ 0x30 ∷ 0x32 ∷ 0x32 ∷ 0x39 ∷ 0x30 ∷ 0x30 ∷ 0x30 ∷ 0x30 ∷ 0x30 ∷ 0x30 ∷ 0x5A ∷ [])), gets bad-time)
+    ∷ (toldCheck (timeRule (0x32 ∷ 0x31 ∷ 0x30 ∷ 0x30 ∷ 0x30 ∷ 0x32 ∷ 0x32 ∷ 0x39 ∷ 0x30 ∷ 0x30 ∷ 0x30 ∷ 0x30 ∷ 0x30 ∷ 0x30 ∷ 0x5A ∷ [])), gets bad-time)
+    ∷ (toldCheck (timeRule (0x32 ∷ 0x30 ∷ 0x32 ∷ 0x34 ∷ 0x30 ∷ 0x32 ∷ 0x33 ∷ 0x30 ∷ 0x30 ∷ 0x30 ∷ 0x30 ∷ 0x30 ∷ 0x30 ∷ 0x30 ∷ 0x5A ∷ [])), gets bad-time)
+    ∷ (toldCheck (timeRule (0x32 ∷ 0x30 ∷ 0x32 ∷ 0x33 ∷ 0x30 ∷ 0x34 ∷ 0x33 ∷ 0x31 ∷ 0x30 ∷ 0x30 ∷ 0x30 ∷ 0x30 ∷ 0x30 ∷ 0x30 ∷ 0x5A ∷ [])), gets bad-time)
+    ∷ (toldCheck (timeRule (0x32 ∷ 0x30 ∷ 0x32 ∷ 0x33 ∷ 0x30 ∷ 0x36 ∷ 0x33 ∷ 0x31 ∷ 0x30 ∷ 0x30 ∷ 0x30 ∷ 0x30 ∷ 0x30 ∷ 0x30 ∷ 0x5A ∷ [])), gets bad-time)
+    ∷ (toldCheck (timeRule (0x32 ∷ 0x30 ∷ 0x32 ∷ 0x33 ∷ 0x30 ∷ 0x39 ∷ 0x33 ∷ 0x31 ∷ 0x30 ∷ 0x30 ∷ 0x30 ∷ 0x30 ∷ 0x30 ∷ 0x30 ∷ 0x5A ∷ [])), gets bad-time)
+    ∷ (toldCheck (timeRule (0x32 ∷ 0x30 ∷ 0x32 ∷ 0x33 ∷ 0x31 ∷ 0x31 ∷ 0x33 ∷ 0x31 ∷ 0x30 ∷ 0x30 ∷ 0x30 ∷ 0x30 ∷ 0x30 ∷ 0x30 ∷ 0x5A ∷ [])), gets bad-time)
+    ∷ (toldCheck (timeRule (0x32 ∷ 0x30 ∷ 0x32 ∷ 0x33 ∷ 0x30 ∷ 0x31 ∷ 0x33 ∷ 0x32 ∷ 0x30 ∷ 0x30 ∷ 0x30 ∷ 0x30 ∷ 0x30 ∷ 0x30 ∷ 0x5A ∷ [])), gets bad-time)
+    ∷ (toldCheck (timeRule (0x32 ∷ 0x30 ∷ 0x32 ∷ 0x33 ∷ 0x30 ∷ 0x31 ∷ 0x30 ∷ 0x30 ∷ 0x30 ∷ 0x30 ∷ 0x30 ∷ 0x30 ∷ 0x30 ∷ 0x30 ∷ 0x5A ∷ [])), gets bad-time)
+    ∷ (toldCheck (timeRule (0x32 ∷ 0x30 ∷ 0x32 ∷ 0x33 ∷ 0x30 ∷ 0x30 ∷ 0x30 ∷ 0x31 ∷ 0x30 ∷ 0x30 ∷ 0x30 ∷ 0x30 ∷ 0x30 ∷ 0x30 ∷ 0x5A ∷ [])), gets bad-time)
+    ∷ (toldCheck (timeRule (0x32 ∷ 0x30 ∷ 0x32 ∷ 0x33 ∷ 0x31 ∷ 0x33 ∷ 0x30 ∷ 0x31 ∷ 0x30 ∷ 0x30 ∷ 0x30 ∷ 0x30 ∷ 0x30 ∷ 0x30 ∷ 0x5A ∷ [])), gets bad-time)
+    ∷ (toldCheck (timeRule (0x32 ∷ 0x30 ∷ 0x32 ∷ 0x33 ∷ 0x30 ∷ 0x31 ∷ 0x30 ∷ 0x31 ∷ 0x32 ∷ 0x34 ∷ 0x30 ∷ 0x30 ∷ 0x30 ∷ 0x30 ∷ 0x5A ∷ [])), gets bad-time)
+    ∷ (toldCheck (timeRule (0x32 ∷ 0x30 ∷ 0x32 ∷ 0x33 ∷ 0x30 ∷ 0x31 ∷ 0x30 ∷ 0x31 ∷ 0x30 ∷ 0x30 ∷ 0x36 ∷ 0x30 ∷ 0x30 ∷ 0x30 ∷ 0x5A ∷ [])), gets bad-time)
+    ∷ (toldCheck (timeRule (0x32 ∷ 0x30 ∷ 0x32 ∷ 0x33 ∷ 0x30 ∷ 0x31 ∷ 0x30 ∷ 0x31 ∷ 0x30 ∷ 0x30 ∷ 0x30 ∷ 0x30 ∷ 0x36 ∷ 0x30 ∷ 0x5A ∷ [])), gets bad-time)
+    ∷ (toldCheck (timeRule (0x32 ∷ 0x30 ∷ 0x32 ∷ 0x33 ∷ 0x30 ∷ 0x31 ∷ 0x30 ∷ 0x31 ∷ 0x30 ∷ 0x30 ∷ 0x30 ∷ 0x30 ∷ 0x30 ∷ 0x30 ∷ [])), gets bad-time)
+    ∷ (toldCheck (timeRule (0x32 ∷ 0x30 ∷ 0x32 ∷ 0x33 ∷ 0x30 ∷ 0x31 ∷ 0x30 ∷ 0x31 ∷ 0x30 ∷ 0x30 ∷ 0x30 ∷ 0x30 ∷ 0x30 ∷ 0x5A ∷ [])), gets bad-time)
+    ∷ (toldCheck (timeRule (0x32 ∷ 0x30 ∷ 0x32 ∷ 0x33 ∷ 0x30 ∷ 0x31 ∷ 0x30 ∷ 0x31 ∷ 0x30 ∷ 0x30 ∷ 0x30 ∷ 0x30 ∷ 0x30 ∷ 0x30 ∷ 0x7A ∷ [])), gets bad-time)
+    ∷ (toldCheck (timeRule (0x32 ∷ 0x30 ∷ 0x32 ∷ 0x33 ∷ 0x30 ∷ 0x31 ∷ 0x30 ∷ 0x31 ∷ 0x30 ∷ 0x30 ∷ 0x30 ∷ 0x30 ∷ 0x30 ∷ 0x30 ∷ 0x2B ∷ [])), gets bad-time)
+    ∷ (toldCheck (timeRule (0x32 ∷ 0x30 ∷ 0x32 ∷ 0x33 ∷ 0x30 ∷ 0x31 ∷ 0x30 ∷ 0x31 ∷ 0x30 ∷ 0x30 ∷ 0x30 ∷ 0x30 ∷ 0x30 ∷ 0x30 ∷ 0x5A ∷ 0x5A ∷ [])), gets bad-time)
+    ∷ (toldCheck (timeRule (0x32 ∷ 0x30 ∷ 0x32 ∷ 0x33 ∷ 0x30 ∷ 0x31 ∷ 0x30 ∷ 0x31 ∷ 0x30 ∷ 0x30 ∷ 0x30 ∷ 0x30 ∷ 0x30 ∷ 0x30 ∷ 0x2E ∷ 0x35 ∷ 0x5A ∷ [])), gets bad-time)
+    ∷ (toldCheck (timeRule (0x32 ∷ 0x30 ∷ 0x32 ∷ 0x33 ∷ 0x30 ∷ 0x31 ∷ 0x30 ∷ 0x31 ∷ 0x30 ∷ 0x30 ∷ 0x30 ∷ 0x30 ∷ 0x30 ∷ 0x3A ∷ 0x5A ∷ [])), gets bad-time)
+    ∷ (toldCheck (timeRule (0x32 ∷ 0x30 ∷ 0x32 ∷ 0x33 ∷ 0x30 ∷ 0x31 ∷ 0x30 ∷ 0x31 ∷ 0x30 ∷ 0x30 ∷ 0x30 ∷ 0x30 ∷ 0x30 ∷ 0x2F ∷ 0x5A ∷ [])), gets bad-time)
+    ∷ (toldCheck (timeRule ([])), gets bad-time)
+    ∷ (toldCheck (timeRule (0x5A ∷ [])), gets bad-time)
     ∷ []
 
 -- ---- one statement over all of them

@@ -1,12 +1,12 @@
 -- INTEGER: two's complement, the highest byte first, in the fewest bytes (01, "Encoding"; X.690, 8.3). Assumes nothing.
-use Prim.Native.Nat.{ℕ, suc, zero, _-_}
+use Prim.Native.Nat.{ℕ, _-_, _^_, _<_}
 use mathlib.Core.Bool.{Bool, true, false, not, _&&_, _||_}
 use mathlib.Core.Option.{Option, none, some}
 use mathlib.Core.List.{List, [], _∷_, _++_}
 use lib.ListN.{length, replicate}
 use lib.Dec.{leb, ltb, eqb}
 use lib.IntN.{ℤ, pos, negsuc}
-use lib.Signed.{leZ}
+use lib.Signed.{leZ, mag}
 use Rattle.terms.specs.Answer.{pick}
 use Rattle.terms.specs.Digits.{digits, number}
 
@@ -23,6 +23,10 @@ shortest (a ∷ b ∷ c) = not (eqb a (sign b))
 -- "1 to 8 bytes"
 abbrev pub widest : ℕ
 widest = 8
+
+-- "An integer is a section of 8 bytes"
+abbrev pub section-bytes : ℕ
+section-bytes = 8
 
 unfoldable pub wellFormed : List ℕ → Bool
 wellFormed c = shortest c && leb (length c) widest
@@ -42,8 +46,8 @@ value (a ∷ c) = pick (ltb a 0x80) (pos (number 256 (a ∷ c))) (negsuc (number
 -- ---- the content of a number
 
 unfoldable pub eight : ℤ → List ℕ
-eight (pos n) = digits 256 widest n
-eight (negsuc n) = turned (digits 256 widest n)
+eight (pos n) = digits 256 section-bytes n
+eight (negsuc n) = turned (digits 256 section-bytes n)
 
 -- bytes that are not needed are taken off the front
 unfoldable pub shrink : List ℕ → List ℕ
@@ -54,6 +58,10 @@ shrink (a ∷ b ∷ c) = pick (eqb a (sign b)) (shrink (b ∷ c)) (a ∷ b ∷ c
 unfoldable pub contentOf : ℤ → List ℕ
 contentOf z = shrink (eight z)
 
+-- a number that eight bytes hold: `mag z` is z, or -1 - z of a negative z
+abbrev pub Fits : ℤ → Type 0
+Fits z = mag z < 2 ^ 63
+
 -- ---- the section of a content: eight bytes
 
 unfoldable pub signOf : List ℕ → ℕ
@@ -61,10 +69,10 @@ signOf [] = 0x00
 signOf (a ∷ c) = sign a
 
 unfoldable pub stretch : List ℕ → List ℕ
-stretch c = replicate (widest - length c) (signOf c) ++ c
+stretch c = replicate (section-bytes - length c) (signOf c) ++ c
 
 unfoldable pub unstretch : List ℕ → Option (List ℕ)
-unstretch x = pick (eqb (length x) widest) (some (shrink x)) none
+unstretch x = pick (eqb (length x) section-bytes) (some (shrink x)) none
 
 -- ---- which numbers are allowed where
 

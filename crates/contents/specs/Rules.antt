@@ -1,5 +1,5 @@
 -- The rules of contents, with 01's order of refusals in each: "6 before 7, 12 before 14, 14 and 9 before 8". Assumes nothing.
-use mathlib.Core.Bool.{Bool, true, false}
+use mathlib.Core.Bool.{Bool, false}
 use mathlib.Core.List.{List, [], _∷_}
 use Prim.Native.Nat.{ℕ}
 use lib.Dec.{eqb}
@@ -30,14 +30,18 @@ unfoldable pub identifierRule : List ℕ → Check
 identifierRule c = ask (isIdentifier c) bad-identifier fine
 
 -- "left out when false, else 01 01 FF"
-unfoldable pub booleanRule : List ℕ → Check
-booleanRule c = ask (same c (0xFF ∷ [])) bad-boolean fine
+abbrev pub yes-byte : List ℕ
+yes-byte = 0xFF ∷ []
 
--- a content that has to be one known content, after its own rule
+unfoldable pub booleanRule : List ℕ → Check
+booleanRule c = ask (same c yes-byte) bad-boolean fine
+
+-- one rule after another
 unfoldable pub also : Check → Check → Check
 also fine k = k
 also (wrong n x) k = wrong n x
 
+-- a content that has to be one known content, after its own rule
 unfoldable pub onlyRule : (List ℕ → Check) → List ℕ → ℕ → List ℕ → Check
 onlyRule rule k n c = also (rule c) (ask (same c k) n fine)
 

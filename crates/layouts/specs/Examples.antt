@@ -1,31 +1,29 @@
 -- A small layout with an optional list, a choice and a flag, evaluated. Assumes nothing.
 use mathlib.Core.Path.{_≡_}
-use mathlib.Core.Logic.{inl, inr}
 use Prim.Native.Nat.{ℕ}
-use mathlib.Core.Bool.{Bool, true, false}
-use mathlib.Core.Option.{none, some}
-use mathlib.Core.List.{List, [], _∷_, _++_}
+use mathlib.Core.Bool.{true}
+use mathlib.Core.List.{List, [], _∷_}
 use lib.ListN.{length}
-use Rattle.terms.specs.declared.Field.the-variants.{ListKind, CertificateList, ListedCertificate, ListedDigest, SealCustomData, SealCustomItem, SealCustomCritical}
-use Rattle.terms.specs.Numbers.{done, other-tag, bad-boolean, left-over, item-missing, too-many-items}
-use Rattle.terms.specs.Answer.{Res, good, fault, pick, bind, need, have, every, enough, same, Told, told-one, refusal, answered}
+use Rattle.terms.specs.declared.Field.the-variants.{ListKind, CertificateList, ListedDigest, SealCustomData, SealCustomItem, SealCustomCritical}
+use Rattle.terms.specs.Numbers.{done, other-tag, bad-boolean, left-over, too-many-items}
+use Rattle.terms.specs.Answer.{pick, bind, need, have, every, enough, same, Told, told-one, refusal, answered}
 use Rattle.terms.specs.Digits.{digits, numberFrom, leading}
 use Rattle.terms.specs.Laws.Table.{Row, asks, answers, sameWhole, sameWholes, sameTold, agree, agreed}
 use Rattle.heads.specs.Head.{spell, octets, tlv, unspell, size, opening, cut, head, outermost}
 use Rattle.contents.specs.Content.{ask, placeOf, judge}
 use Rattle.contents.specs.Rules.{octetsRule, booleanRule}
 use Rattle.contents.specs.Leaves.{needs-a-byte, octetString}
-use Rattle.layouts.specs.Layout.{Run, end, _▸_, leaf, node, list, one, maybe, flag, choose, Values, each, option, either, critical, encode}
-use Rattle.layouts.specs.Reading.{readLeaf, begins, finish, many, readOption, readFlag, readEither, read}
+use Rattle.layouts.specs.Layout.{Members, end, _▸_, leaf, node, list, one, maybe, flag, choose, each, option, either, critical, encode}
+use Rattle.layouts.specs.Reading.{readBy, begins, finish, many, readOption, readFlag, readEither, read}
 use Rattle.layouts.specs.Sheet.{count, section, bit, sheetOption, sheetList, sheet, readCount, readSection, fillLeaf, times, unbit, fillFlag, fillOption, fillList, fill}
 use Rattle.layouts.specs.Whole.{sequence, recordOf, recordAt, accept, finishSheet, acceptSheet, fit, fillSheet, writeRecord}
 
 evaluate : Unit {0}
-unfolding pick bind need have every enough same sameWhole sameWholes sameTold agree digits numberFrom leading spell octets tlv unspell size opening cut head outermost ask placeOf judge octetsRule booleanRule each option either critical encode readLeaf begins finish many readOption readFlag readEither read count section bit sheetOption sheetList sheet readCount readSection fillLeaf times unbit fillFlag fillOption fillList fill recordAt accept finishSheet acceptSheet fit fillSheet writeRecord
+unfolding pick bind need have every enough same sameWhole sameWholes sameTold agree digits numberFrom leading spell octets tlv unspell size opening cut head outermost ask placeOf judge octetsRule booleanRule each option either critical encode readBy begins finish many readOption readFlag readEither read count section bit sheetOption sheetList sheet readCount readSection fillLeaf times unbit fillFlag fillOption fillList fill recordAt accept finishSheet acceptSheet fit fillSheet writeRecord
 evaluate = tt
 
--- a string 01 or 02, then an octet string or a SEQUENCE of one by it, then a flag, then up to two octet strings in a list, optional
-abbrev small : Run
+-- an octet string, by which a second one or a SEQUENCE of one follows, then a flag, then up to two octet strings in a list, optional
+abbrev small : Members
 small =
     choose ListKind (octetString needs-a-byte) (λ c. same c (0x01 ∷ [])) CertificateList (leaf (octetString needs-a-byte)) (node sequence (one ListedDigest (leaf (octetString needs-a-byte)) ▸ end))
     ▸ flag SealCustomCritical ▸ maybe SealCustomData (list sequence true 2 SealCustomItem (leaf (octetString needs-a-byte))) ▸ end
@@ -37,7 +35,7 @@ accepted w = answered (λ v. length (recordOf small v)) (accept 100 small w)
 abbrev filled : List ℕ → Told
 filled w = answered (λ x. length x) (fillSheet 100 small w 100)
 
--- a record of kind 1, and what is put behind its first octet string
+-- a record whose first string is 01, and what stands behind its second
 abbrev of1 : ℕ → List ℕ → List ℕ
 of1 n more = 0x30 ∷ n ∷ 0x04 ∷ 0x01 ∷ 0x01 ∷ 0x04 ∷ 0x01 ∷ 0xAA ∷ more
 

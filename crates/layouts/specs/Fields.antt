@@ -1,18 +1,19 @@
 -- The fields of a record, each under its name: "a part of the lent record, .. the bytes its section has, or the signed bytes;
 -- in a list by index". Name, place and bytes stand together here and are asked for here. Assumes nothing.
+use mathlib.Core.Path.{_≡_}
 use mathlib.Core.Logic.{_⊎_, inl, inr}
 use Prim.Native.Nat.{ℕ, suc, _+_}
 use mathlib.Core.Bool.{Bool, true, false, _&&_}
 use mathlib.Core.Option.{Option, none, some}
 use mathlib.Core.List.{List, [], _∷_, _++_}
-use lib.ListN.{length, drop}
+use lib.ListN.{length, take, drop}
 use lib.Dec.{eqb}
 use Rattle.terms.specs.declared.Field.{Field}
 use Rattle.terms.specs.Names.{sameName}
 use Rattle.terms.specs.Answer.{pick}
 use Rattle.heads.specs.Head.{tlv, before}
-use Rattle.contents.specs.Leaves.{boolean}
-use Rattle.layouts.specs.Layout.{Item, leaf, node, list, wrap, Run, end, _▸_, Member, known, one, maybe, flag, choose, Value, Values, Part, each, either, encode, encodes, encodePart}
+use Rattle.contents.specs.Rules.{yes-byte}
+use Rattle.layouts.specs.Layout.{Item, leaf, node, list, wrap, Members, end, _▸_, Member, known, one, maybe, flag, choose, Value, Values, Part, each, encode, encodes, encodePart}
 
 -- a field: its name, its index in a list, the offset of its bytes in the record, and its bytes
 pub record Entry : Type 0 where
@@ -39,7 +40,7 @@ eitherFields f g (inr c) b = g c b
 
 -- a BOOLEAN that is there
 unfoldable pub flagFields : Field → ℕ → Bool → ℕ → List Entry
-flagFields f k true b = entry f k (b + before 1) (0xFF ∷ []) ∷ []
+flagFields f k true b = entry f k (b + before 1) yes-byte ∷ []
 flagFields f k false b = []
 
 -- an item's fields, where it stands at `b` under the name `f` and the index `k`; of an item with parts the whole item is one
@@ -52,7 +53,7 @@ unfoldable mutual
       ∷ eachFields (λ j v p. itemFields i g j v p) (λ v. encode i v) 0 vs (b + before (length (each (λ v. encode i v) vs)))
   itemFields (wrap t i) f k v b = itemFields i f k v (b + before (length (encode i v)))
 
-  pub runFields : (r : Run) → ℕ → Values r → ℕ → List Entry
+  pub runFields : (r : Members) → ℕ → Values r → ℕ → List Entry
   runFields end k v b = []
   runFields (m ▸ r) k v b = partFields m k (v .0) b ++ runFields r k (v .1) (b + length (encodePart m (v .0)))
 
@@ -66,8 +67,12 @@ unfoldable mutual
       ∷ eitherFields (λ x p. itemFields i g k x p) (λ x p. itemFields j g k x p) (v .1) (b + length (tlv (l .tag) (v .0)))
 
 -- the fields of a whole record
-unfoldable pub fields : (r : Run) → Values r → List Entry
+unfoldable pub fields : (r : Members) → Values r → List Entry
 fields r v = runFields r 0 v (before (length (encodes r v)))
+
+-- the field's bytes stand at its place in a record
+abbrev pub Stands : List ℕ → Entry → Type 0
+Stands w x = take (length (x .bytes)) (drop (x .place) w) ≡ x .bytes
 
 -- ---- asking
 

@@ -11,6 +11,7 @@ use Rattle.terms.specs.declared.Field.{Field}
 use Rattle.terms.specs.Answer.{enough}
 use Rattle.heads.specs.Head.{tlv}
 use Rattle.contents.specs.Content.{Leaf, fine}
+use Rattle.contents.specs.Rules.{yes-byte}
 use Rattle.contents.specs.Leaves.{boolean}
 
 infixr 20 _▸_
@@ -19,13 +20,13 @@ infixr 20 _▸_
 mutual
   pub data Item : Type 0 where
     leaf : Leaf → Item
-    node : ℕ → Run → Item  -- a tag around a run of members
+    node : ℕ → Members → Item  -- a tag around a run of members
     list : ℕ → Bool → ℕ → Field → Item → Item  -- a tag around items of one name: whether there may be none, and how many at most
     wrap : ℕ → Item → Item  -- a tag around one whole item
 
-  pub data Run : Type 0 where
-    end : Run
-    _▸_ : Member → Run → Run
+  pub data Members : Type 0 where
+    end : Members
+    _▸_ : Member → Members → Members
 
   pub data Member : Type 0 where
     known : Leaf → List ℕ → ℕ → Member  -- its only content, and the refusal of another
@@ -50,7 +51,7 @@ abbrev mutual
   Value (list t e n f i) = List (Value i)
   Value (wrap t i) = Value i
 
-  pub Values : Run → Type 0
+  pub Values : Members → Type 0
   Values end = Unit {0}
   Values (m ▸ r) = Part m × Values r
 
@@ -83,7 +84,7 @@ abbrev mutual
   Ok (list t e n f i) vs = T (enough e vs) × (length vs ≤ n) × All (λ v. Ok i v) vs
   Ok (wrap t i) v = Ok i v
 
-  pub Oks : (r : Run) → Values r → Type 0
+  pub Oks : (r : Members) → Values r → Type 0
   Oks end v = Unit {0}
   Oks (m ▸ r) v = OkPart m (v .0) × Oks r (v .1)
 
@@ -110,7 +111,7 @@ either f g (inr b) = g b
 
 -- "left out when false, else 01 01 FF"
 unfoldable pub critical : Bool → List ℕ
-critical true = tlv (boolean .tag) (0xFF ∷ [])
+critical true = tlv (boolean .tag) yes-byte
 critical false = []
 
 unfoldable mutual
@@ -120,7 +121,7 @@ unfoldable mutual
   encode (list t e n f i) vs = tlv t (each (λ v. encode i v) vs)
   encode (wrap t i) v = tlv t (encode i v)
 
-  pub encodes : (r : Run) → Values r → List ℕ
+  pub encodes : (r : Members) → Values r → List ℕ
   encodes end v = []
   encodes (m ▸ r) v = encodePart m (v .0) ++ encodes r (v .1)
 

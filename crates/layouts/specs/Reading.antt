@@ -8,19 +8,23 @@ use mathlib.Core.List.{List, [], _∷_}
 use lib.ListN.{length}
 use lib.Dec.{eqb}
 use Rattle.terms.specs.Numbers.{left-over, no-item, too-many-items}
-use Rattle.terms.specs.Answer.{Res, good, fault, Got, pick, bind, need, enough, same}
+use Rattle.terms.specs.Answer.{Res, good, fault, Got, pick, bind, need, enough}
 use Rattle.heads.specs.Head.{Cut, head}
-use Rattle.contents.specs.Content.{Leaf, judge}
+use Rattle.contents.specs.Content.{Check, Leaf, judge}
+use Rattle.contents.specs.Rules.{onlyRule}
 use Rattle.contents.specs.Leaves.{boolean}
-use Rattle.layouts.specs.Layout.{Item, leaf, node, list, wrap, Run, end, _▸_, Member, known, one, maybe, flag, choose, tagOf, Value, Values, Part}
+use Rattle.layouts.specs.Layout.{Item, leaf, node, list, wrap, Members, end, _▸_, Member, known, one, maybe, flag, choose, tagOf, Value, Values, Part}
 
 -- where what follows an item starts
 abbrev pub next : Cut → ℕ
 next c = c .2 + length (c .0)
 
 -- a primitive item: its head, then its own rule
-unfoldable pub readLeaf : Leaf → List ℕ → ℕ → Res Cut
-readLeaf l w b = bind (head (l .tag) w b) λ c. judge (l .rule (c .0)) b (c .2) (good c)
+unfoldable pub readBy : ℕ → (List ℕ → Check) → List ℕ → ℕ → Res Cut
+readBy t rule w b = bind (head t w b) λ c. judge (rule (c .0)) b (c .2) (good c)
+
+abbrev pub readLeaf : Leaf → List ℕ → ℕ → Res Cut
+readLeaf l w b = readBy (l .tag) (l .rule) w b
 
 -- whether a window begins with a tag
 unfoldable pub begins : ℕ → List ℕ → Bool
@@ -59,12 +63,12 @@ unfoldable mutual
       (bind (many (λ x p. read i x p) n (c .0) (c .2)) λ vs. good (vs, c .1, next c))
   read (wrap t i) w b = bind (head t w b) λ c. bind (read i (c .0) (c .2)) λ a. bind (finish (a .1) (a .2)) λ u. good (a .0, c .1, next c)
 
-  pub reads : (r : Run) → List ℕ → ℕ → Res (Values r)
+  pub reads : (r : Members) → List ℕ → ℕ → Res (Values r)
   reads end w b = finish w b
   reads (m ▸ r) w b = bind (readPart m w b) λ a. bind (reads r (a .1) (a .2)) λ v. good (a .0, v)
 
   pub readPart : (m : Member) → List ℕ → ℕ → Res (Got (Part m))
-  readPart (known l k n) w b = bind (readLeaf l w b) λ c. need (same (c .0) k) n b (good (tt, c .1, next c))
+  readPart (known l k n) w b = bind (readBy (l .tag) (onlyRule (l .rule) k n) w b) λ c. good (tt, c .1, next c)
   readPart (one f i) w b = read i w b
   readPart (maybe f i) w b = readOption (tagOf i) (λ x p. read i x p) w b
   readPart (flag f) w b = readFlag w b

@@ -1,21 +1,22 @@
 -- Reading by positions: where what follows an item starts, or the refusal. Assumes nothing.
 -- Nobody has to believe this page: `Laws.Scan` proves that it is `Reading`, and code is proved against its steps.
 use Prim.Native.Nat.{ℕ, suc, zero}
-use mathlib.Core.Bool.{Bool, true, false, _&&_, _||_}
-use mathlib.Core.List.{List, [], _∷_}
+use mathlib.Core.Bool.{Bool, _&&_, _||_}
+use mathlib.Core.List.{List}
 use lib.ListN.{getD}
 use lib.Seq.{slice}
 use lib.Dec.{ltb, eqb}
 use Rattle.terms.specs.Numbers.{left-over, no-item, too-many-items}
-use Rattle.terms.specs.Answer.{pick, same}
+use Rattle.terms.specs.Answer.{pick}
 use Rattle.heads.specs.Scan.{headAt}
 use Rattle.heads.specs.declared.Seen.{Seen}
 use Rattle.heads.specs.declared.Seen.the-variants.{Item as At, Refused as Bad}
 use Rattle.heads.specs.declared.Step.{Step}
 use Rattle.heads.specs.declared.Step.the-variants.{Next, Refused}
 use Rattle.contents.specs.Content.{Check, fine, wrong, Leaf, placeOf}
+use Rattle.contents.specs.Rules.{onlyRule}
 use Rattle.contents.specs.Leaves.{boolean}
-use Rattle.layouts.specs.Layout.{Item, leaf, node, list, wrap, Run, end, _▸_, Member, known, one, maybe, flag, choose, tagOf}
+use Rattle.layouts.specs.Layout.{Item, leaf, node, list, wrap, Members, end, _▸_, Member, known, one, maybe, flag, choose, tagOf}
 
 abbrev pub thenSeen : Seen → (ℕ → ℕ → Step) → Step
 thenSeen (At a z) k = k a z
@@ -33,8 +34,11 @@ abbrev pub thenJudge : Seen → (ℕ → ℕ → Seen) → Seen
 thenJudge (At a z) k = k a z
 thenJudge (Bad n p) k = Bad n p
 
-unfoldable pub leafAt : Leaf → List ℕ → ℕ → ℕ → Seen
-leafAt l s p e = thenJudge (headAt (l .tag) s p e) λ a z. judgeAt (l .rule (slice a z s)) p a z
+unfoldable pub ruleAt : ℕ → (List ℕ → Check) → List ℕ → ℕ → ℕ → Seen
+ruleAt t rule s p e = thenJudge (headAt t s p e) λ a z. judgeAt (rule (slice a z s)) p a z
+
+abbrev pub leafAt : Leaf → List ℕ → ℕ → ℕ → Seen
+leafAt l s p e = ruleAt (l .tag) (l .rule) s p e
 
 unfoldable pub beginsAt : ℕ → List ℕ → ℕ → ℕ → Bool
 beginsAt t s p e = ltb p e && eqb (getD s p 0) t
@@ -53,12 +57,12 @@ unfoldable mutual
   scan (list t k n f i) s p e = thenSeen (headAt t s p e) λ a z. pick (k || ltb a z) (scanMany (λ q. scan i s q z) n a z) (Refused no-item p)
   scan (wrap t i) s p e = thenSeen (headAt t s p e) λ a z. thenStep (scan i s a z) λ q. closeAt q z
 
-  pub scans : Run → List ℕ → ℕ → ℕ → Step
+  pub scans : Members → List ℕ → ℕ → ℕ → Step
   scans end s p e = closeAt p e
   scans (m ▸ r) s p e = thenStep (scanPart m s p e) λ q. scans r s q e
 
   pub scanPart : Member → List ℕ → ℕ → ℕ → Step
-  scanPart (known l k n) s p e = thenSeen (leafAt l s p e) λ a z. pick (same (slice a z s) k) (Next z) (Refused n p)
+  scanPart (known l k n) s p e = thenSeen (ruleAt (l .tag) (onlyRule (l .rule) k n) s p e) λ a z. Next z
   scanPart (one f i) s p e = scan i s p e
   scanPart (maybe f i) s p e = pick (beginsAt (tagOf i) s p e) (scan i s p e) (Next p)
   scanPart (flag f) s p e = pick (beginsAt (boolean .tag) s p e) (thenSeen (leafAt boolean s p e) λ a z. Next z) (Next p)

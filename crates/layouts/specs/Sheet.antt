@@ -1,5 +1,4 @@
 -- The field sheet (01, "The field sheet"): "sections in a fixed order, each after its count, four bytes, big-endian". Assumes nothing.
-use mathlib.Core.Logic.{_⊎_, inl, inr}
 use Prim.Native.Nat.{ℕ, suc, zero, _+_}
 use mathlib.Core.Bool.{Bool, true, false, _||_}
 use mathlib.Core.Option.{Option, none, some}
@@ -7,11 +6,11 @@ use mathlib.Core.List.{List, [], _∷_, _++_}
 use lib.ListN.{length, take, drop}
 use lib.Dec.{leb, eqb}
 use Rattle.terms.specs.Numbers.{no-item, too-many-items, bad-sheet}
-use Rattle.terms.specs.Answer.{Res, good, fault, Got, pick, bind, need, have, same}
+use Rattle.terms.specs.Answer.{Res, good, Got, pick, bind, need, have, same}
 use Rattle.terms.specs.Digits.{digits, leading}
 use Rattle.heads.specs.Head.{Cut}
 use Rattle.contents.specs.Content.{Leaf, judge}
-use Rattle.layouts.specs.Layout.{Item, leaf, node, list, wrap, Run, end, _▸_, Member, known, one, maybe, flag, choose, Value, Values, Part, each, either}
+use Rattle.layouts.specs.Layout.{Item, leaf, node, list, wrap, Members, end, _▸_, Member, known, one, maybe, flag, choose, Value, Values, Part, each, either}
 use Rattle.layouts.specs.Reading.{next, readEither}
 
 -- ---- writing
@@ -47,7 +46,7 @@ unfoldable mutual
   sheet (list t e n f i) vs = sheetList (λ v. sheet i v) vs
   sheet (wrap t i) v = sheet i v
 
-  pub sheets : (r : Run) → Values r → List ℕ
+  pub sheets : (r : Members) → Values r → List ℕ
   sheets end v = []
   sheets (m ▸ r) v = sheetPart m (v .0) ++ sheets r (v .1)
 
@@ -99,7 +98,7 @@ unfoldable mutual
   fill (list t e n f i) w p = fillList e n (λ x q. fill i x q) w p
   fill (wrap t i) w p = fill i w p
 
-  pub fills : (r : Run) → List ℕ → ℕ → Res (Got (Values r))
+  pub fills : (r : Members) → List ℕ → ℕ → Res (Got (Values r))
   fills end w p = good (tt, w, p)
   fills (m ▸ r) w p = bind (fillPart m w p) λ a. bind (fills r (a .1) (a .2)) λ v. good ((a .0, v .0), v .1, v .2)
 

@@ -1,13 +1,13 @@
 -- A whole record and a whole sheet, and what is stored in a destination. Assumes nothing.
 -- `most` is the largest size of a record, header included.
-use Prim.Native.Nat.{ℕ}
+use Prim.Native.Nat.{ℕ, _≤_}
 use mathlib.Core.List.{List, [], _∷_, _++_}
 use lib.ListN.{length, drop}
 use lib.Dec.{leb}
 use Rattle.terms.specs.Numbers.{done, too-large, bad-sheet, no-room}
 use Rattle.terms.specs.Answer.{Res, good, fault, Got, bind, need, Told, told-one, refusal}
 use Rattle.heads.specs.Head.{tlv, outermost}
-use Rattle.layouts.specs.Layout.{Run, Values, encodes}
+use Rattle.layouts.specs.Layout.{Members, Values, Oks, encodes}
 use Rattle.layouts.specs.Reading.{next, reads, finish}
 use Rattle.layouts.specs.Sheet.{sheets, fills}
 use Rattle.layouts.specs.declared.Outcome.{Outcome}
@@ -18,15 +18,19 @@ use Rattle.layouts.specs.declared.Outcome.the-variants.{Length, Refused}
 abbrev pub sequence : ℕ
 sequence = 0x30
 
-abbrev pub recordOf : (r : Run) → Values r → List ℕ
+abbrev pub recordOf : (r : Members) → Values r → List ℕ
 recordOf r v = tlv sequence (encodes r v)
 
+-- a value inside the rules, whose record is not too large
+abbrev pub Allowed : ℕ → (r : Members) → Values r → Type 0
+Allowed most r v = Oks r v × (length (recordOf r v) ≤ most)
+
 -- a record at the front of a window, whatever follows it
-unfoldable pub recordAt : ℕ → (r : Run) → List ℕ → ℕ → Res (Got (Values r))
+unfoldable pub recordAt : ℕ → (r : Members) → List ℕ → ℕ → Res (Got (Values r))
 recordAt most r w b = bind (outermost most sequence w b) λ c. bind (reads r (c .0) (c .2)) λ v. good (v, c .1, next c)
 
 -- a record that is the whole input
-unfoldable pub accept : ℕ → (r : Run) → List ℕ → Res (Values r)
+unfoldable pub accept : ℕ → (r : Members) → List ℕ → Res (Values r)
 accept most r w = bind (recordAt most r w 0) λ a. bind (finish (a .1) (a .2)) λ u. good (a .0)
 
 -- ---- sheets
@@ -36,7 +40,7 @@ unfoldable pub finishSheet : List ℕ → ℕ → Res (Unit {0})
 finishSheet [] p = good tt
 finishSheet (x ∷ w) p = fault bad-sheet p
 
-unfoldable pub acceptSheet : (r : Run) → List ℕ → Res (Values r)
+unfoldable pub acceptSheet : (r : Members) → List ℕ → Res (Values r)
 acceptSheet r w = bind (fills r w 0) λ x. bind (finishSheet (x .1) (x .2)) λ u. good (x .0)
 
 -- ---- into a destination of `room` bytes
@@ -46,11 +50,11 @@ unfoldable pub fit : ℕ → List ℕ → Res (List ℕ)
 fit room x = need (leb (length x) room) no-room (length x) (good x)
 
 -- "A reader that fills a sheet gives 20 after all else."
-unfoldable pub fillSheet : ℕ → Run → List ℕ → ℕ → Res (List ℕ)
+unfoldable pub fillSheet : ℕ → Members → List ℕ → ℕ → Res (List ℕ)
 fillSheet most r w room = bind (accept most r w) λ v. fit room (sheets r v)
 
 -- "A writer reads the whole sheet first, then 17, then 20."
-unfoldable pub writeRecord : ℕ → Run → List ℕ → ℕ → Res (List ℕ)
+unfoldable pub writeRecord : ℕ → Members → List ℕ → ℕ → Res (List ℕ)
 writeRecord most r x room = bind (acceptSheet r x) λ v. need (leb (length (recordOf r v)) most) too-large 0 (fit room (recordOf r v))
 
 -- "On any refusal the destination keeps all its bytes; on success only the reported number of first bytes changes."

@@ -1,7 +1,7 @@
 -- Each contract says what a function's answer tells in the paper's terms. These are the proofs that this admits one answer only:
 -- two answers that tell the same are the same. Assumes nothing.
 use mathlib.Core.Path.{_≡_, refl, sym, ap, _∙_}
-use mathlib.Core.Bool.{Bool, true, false}
+use mathlib.Core.Bool.{true, false}
 use mathlib.Core.List.{List, [], _∷_}
 use Prim.Native.Nat.{ℕ, suc, zero}
 use lib.Dec.{eqb}

@@ -1,44 +1,43 @@
 -- What the project promises its user, over the definitions that the public contracts cite. Read this page first. Assumes nothing.
 -- A record is a seal or a signature record: `seal` and `signature` are the layouts of document 01, `v` is a record's field values.
-use mathlib.Core.Path.{_≡_, refl, sym, ap, _∙_, subst}
-use mathlib.Core.Logic.{_⊎_, inl, inr}
-use mathlib.Core.Bool.{Bool, true, false, not, _&&_}
-use mathlib.Core.Option.{Option, none, some}
-use mathlib.Core.List.{List, [], _∷_, _++_, append-assoc}
-use Prim.Native.Nat.{ℕ, _+_, _≤_, _<_}
+use mathlib.Core.Path.{_≡_, sym, ap, _∙_, subst}
+use mathlib.Core.Bool.{Bool, false, not, _&&_}
+use mathlib.Core.Option.{some}
+use mathlib.Core.List.{List, [], _++_, append-nil}
+use Prim.Native.Nat.{ℕ, _+_, _≤_}
 use native.Mathlib.Omega.{arith}
-use lib.ListN.{length, take, drop, length-append}
-use lib.IntN.{ℤ, pos, negsuc}
+use lib.ListN.{length, take, drop}
+use lib.IntN.{ℤ}
 use lib.Dec.{T, leb}
-use Rattle.terms.specs.declared.Field.{Field}
 use Rattle.terms.specs.declared.Field.the-variants.{SignedPart, SealInformation}
-use Rattle.terms.specs.Numbers.{largest-record}
-use Rattle.terms.specs.Answer.{Res, good, fault, every, Told}
+use Rattle.terms.specs.Numbers.{largest-record, unreal-time}
+use Rattle.terms.specs.Answer.{good, fault, every}
 use Rattle.terms.specs.Laws.Answer.{good-inj, and-r}
 use Rattle.terms.specs.Digits.{isByte}
-use Rattle.heads.specs.Head.{unspelled}
-use Rattle.contents.specs.Integer.{value, contentOf, wellFormed}
-use Rattle.contents.specs.Laws.Integer.{Fits, value-contentOf, contentOf-value, contentOf-wellFormed}
-use Rattle.layouts.specs.Layout.{node, Run, Values, Oks, All, encode}
+use Rattle.contents.specs.Integer.{value, contentOf, wellFormed, Fits}
+use Rattle.contents.specs.Laws.Integer.{value-contentOf, contentOf-value, contentOf-wellFormed}
+use Rattle.layouts.specs.Layout.{node, Members, Values, All, encode}
 use Rattle.layouts.specs.Sheet.{sheets}
-use Rattle.layouts.specs.Whole.{sequence, recordOf, acceptSheet, stored, toldOutcome}
-use Rattle.layouts.specs.Fields.{Entry, fields, first}
-use Rattle.layouts.specs.declared.Outcome.{Outcome}
-use Rattle.layouts.specs.declared.Outcome.the-variants.{Length, Refused}
+use Rattle.layouts.specs.Whole.{sequence, recordOf, Allowed, acceptSheet}
+use Rattle.layouts.specs.Fields.{Entry, fields, Stands, first}
 use Rattle.layouts.specs.Laws.Reading.{clear, clears, spare, prefix-free}
 use Rattle.layouts.specs.Laws.Whole as Whole
-use Rattle.layouts.specs.Laws.Fields.{Stands, fields-stand, first-stands}
+use Rattle.layouts.specs.Laws.Fields.{fields-stand, first-stands}
 use Rattle.records.specs.Record.{seal, signature}
-use Rattle.records.specs.Handing.{readRecord, fillFrom, writeFrom}
+use Rattle.records.specs.Handing.{readRecord, fillFrom, writeFrom, fillAfter, writeAfter, signedBytes, informationOf, signedPartOf, sealOf}
 use Rattle.records.specs.Laws.Record as Record
-use Rattle.runs.specs.Run.{runOf, whole, readRun}
+use Rattle.runs.specs.Run.{runOf, whole, stopped, readRun, hereAt, taken, ended, faulty}
 use Rattle.runs.specs.Laws.Run as Runs
-use Rattle.verdicts.specs.Verdict.{Step, firstFailing, Facts, signatureSteps, signatureValid, sealSteps, sealValid, makerOut, signatureVerdict, sealVerdict}
+use Rattle.verdicts.specs.Verdict.{firstFailing, First, takesNotice, Facts, signatureSteps, signatureValid, sealSteps, sealValid, makerOut, judged, signatureVerdict, sealVerdict}
+use Rattle.verdicts.specs.Findings.{allReal}
 use Rattle.verdicts.specs.Laws.Verdict as Verdict
+use Rattle.verdicts.specs.Laws.Verdict.{factsOf}
 use Rattle.verdicts.specs.declared.Findings.{Findings}
+use Rattle.verdicts.specs.declared.Verdict.the-variants.{Judged, Refused}
 
--- the layouts that the promises are about: what may be missing in them cannot be mistaken for what follows
-abbrev pub Clear : Run → Type 0
+-- The layouts that the promises are about: what may be missing in them cannot be mistaken for what follows, what is known is inside its
+-- rule, and no list is too long to count. The two that document 01 gives are such.
+abbrev pub Clear : Members → Type 0
 Clear r = T (clear (node sequence r))
 
 pub the-seal : Clear seal
@@ -48,39 +47,39 @@ pub the-signature : Clear signature
 the-signature = Record.signature-clear
 
 -- a value inside the rules, whose record is not too large
-abbrev pub Allowed : (r : Run) → Values r → Type 0
-Allowed r v = Oks r v × (length (recordOf r v) ≤ largest-record)
+abbrev pub Right : (r : Members) → Values r → Type 0
+Right r v = Allowed largest-record r v
 
-module _ (r : Run) (k : Clear r) where
-  run-clear : T (clears r)
+module _ (r : Members) (k : Clear r) where
+  inner : T (clears r)
   unfolding clear
-  run-clear = and-r (leb (spare r) 16) (clears r) k
+  inner = and-r (leb (spare r) 16) (clears r) k
 
   -- ---- demand 2: "Read and write exactly the DER records inside the rules."
 
-  -- what is accepted is an allowed value's bytes and nothing else
-  pub accepted-is-allowed : (w : List ℕ) (v : Values r) → readRecord r w ≡ good v → (w ≡ recordOf r v) × Allowed r v
-  accepted-is-allowed w v e = let a = Whole.accept-back largest-record r w v e in (a .0, (a .1, rw (← a .0) (a .2)))
+  -- what is accepted is a right value's bytes and nothing else
+  pub accepted-is-right : (w : List ℕ) (v : Values r) → readRecord r w ≡ good v → (w ≡ recordOf r v) × Right r v
+  accepted-is-right w v e = let a = Whole.accept-back largest-record r w v e in (a .0, (a .1, rw (← a .0) (a .2)))
 
-  -- and every allowed value's bytes are accepted, as that value
-  pub allowed-is-accepted : (v : Values r) → Allowed r v → readRecord r (recordOf r v) ≡ good v
-  allowed-is-accepted v a = Whole.accept-there largest-record r run-clear Record.record-spelled v (a .0) (a .1)
+  -- and every right value's bytes are accepted, as that value
+  pub right-is-accepted : (v : Values r) → Right r v → readRecord r (recordOf r v) ≡ good v
+  right-is-accepted v a = Whole.accept-there largest-record r inner Record.record-spelled v (a .0) (a .1)
 
-  -- so a record has one value only
-  pub one-value : (w : List ℕ) (u v : Values r) → readRecord r w ≡ good u → readRecord r w ≡ good v → u ≡ v
-  one-value w u v e g = good-inj (sym e ∙ g)
+  -- a value has one record only
+  pub one-record : (w x : List ℕ) (v : Values r) → readRecord r w ≡ good v → readRecord r x ≡ good v → w ≡ x
+  one-record w x v e g = accepted-is-right w v e .0 ∙ sym (accepted-is-right x v g .0)
 
-  -- and a value one record only
-  pub one-record : (u v : Values r) → Allowed r u → Allowed r v → recordOf r u ≡ recordOf r v → u ≡ v
-  one-record u v a b e = good-inj (sym (allowed-is-accepted u a) ∙ ap (readRecord r) e ∙ allowed-is-accepted v b)
+  -- and a record one value only
+  pub one-value : (u v : Values r) → Right r u → Right r v → recordOf r u ≡ recordOf r v → u ≡ v
+  one-value u v a b e = good-inj (sym (right-is-accepted u a) ∙ ap (readRecord r) e ∙ right-is-accepted v b)
 
   -- "Each field handed out is that field's own bytes in the caller's record."
-  pub fields-are-there : (w : List ℕ) (v : Values r) → readRecord r w ≡ good v → All (Stands w) (fields r v)
-  fields-are-there w v e = subst (λ (s : List ℕ). All (Stands s) (fields r v)) (sym (accepted-is-allowed w v e .0)) (fields-stand r v)
+  pub fields-stand-there : (w : List ℕ) (v : Values r) → readRecord r w ≡ good v → All (Stands w) (fields r v)
+  fields-stand-there w v e = subst (λ (s : List ℕ). All (Stands s) (fields r v)) (sym (accepted-is-right w v e .0)) (fields-stand r v)
 
-  pub handed-out-is-there : (w : List ℕ) (v : Values r) → readRecord r w ≡ good v → (p : Entry → Bool) (x : Entry) → first p (fields r v) ≡ some x
+  pub handed-out-stands-there : (w : List ℕ) (v : Values r) → readRecord r w ≡ good v → (p : Entry → Bool) (x : Entry) → first p (fields r v) ≡ some x
       → take (length (x .bytes)) (drop (x .place) w) ≡ x .bytes
-  handed-out-is-there w v e p x h = first-stands (Stands w) p (fields r v) x (fields-are-there w v e) h
+  handed-out-stands-there w v e p x h = first-stands (Stands w) p (fields r v) x (fields-stand-there w v e) h
 
   -- "Record → sheet → record and sheet → record → sheet give the same bytes.": each way succeeds wherever there is room
   pub record-sheet-record : (w : List ℕ) (v : Values r) → readRecord r w ≡ good v → (room room′ : ℕ) → length (sheets r v) ≤ room → length w ≤ room′
@@ -100,52 +99,97 @@ module _ (r : Run) (k : Clear r) where
   pub written-is-a-record : (x : List ℕ) (room : ℕ) (w : List ℕ) → writeFrom r x room ≡ good w → (v : Values r) × (acceptSheet r x ≡ good v) × (w ≡ recordOf r v) × (readRecord r w ≡ good v) × (length w ≤ room)
   written-is-a-record x room w e = Whole.writeRecord-back largest-record r k Record.record-spelled x room w e
 
+  -- demand 1: "a refusal writes nothing into the caller's memory"
+  pub refused-fill-writes-nothing : (w d : List ℕ) (n p : ℕ) → fillFrom r w (length d) ≡ fault n p → fillAfter r w d ≡ d
+  unfolding fillAfter
+  refused-fill-writes-nothing w d n p e = rw e (Whole.stored-fault n p d)
+
+  pub refused-write-writes-nothing : (x d : List ℕ) (n p : ℕ) → writeFrom r x (length d) ≡ fault n p → writeAfter r x d ≡ d
+  unfolding writeAfter
+  refused-write-writes-nothing x d n p e = rw e (Whole.stored-fault n p d)
+
   -- ---- demand 3: "Accepted records end to end, none or many"
 
   -- "a run reads back exactly its list"
-  pub run-reads-back : (vs : List (Values r)) → All (Allowed r) vs → readRun r (runOf r vs) ≡ whole vs
-  run-reads-back vs ok = Runs.run-there r run-clear vs ok
+  pub run-reads-back : (vs : List (Values r)) → All (Right r) vs → readRun r (runOf r vs) ≡ whole vs
+  run-reads-back vs ok = Runs.run-there r inner vs ok
 
-  pub every-run-is-a-list : (w : List ℕ) (vs : List (Values r)) → readRun r w ≡ whole vs → (w ≡ runOf r vs) × All (Allowed r) vs
+  pub every-run-is-a-list : (w : List ℕ) (vs : List (Values r)) → readRun r w ≡ whole vs → (w ≡ runOf r vs) × All (Right r) vs
   every-run-is-a-list w vs e = Runs.run-back r w vs e
 
+  -- a refused run: the records before the fault are what stands there, and the run reader stops at the same fault
+  pub refused-run-stops : (w : List ℕ) (vs : List (Values r)) (n p : ℕ) → readRun r w ≡ stopped vs n p
+      → (rest : List ℕ) × (w ≡ runOf r vs ++ rest) × All (Right r) vs × (hereAt r w (length (runOf r vs)) ≡ faulty n p)
+  refused-run-stops w vs n p e = Runs.run-stops r w vs n p e
+
+  -- the run reader goes from record to record, and ends at the end
+  pub reader-takes-a-record : (s p : List ℕ) (v : Values r) (w : List ℕ) → Right r v → s ≡ p ++ (recordOf r v ++ w) → hereAt r s (length p) ≡ taken (v, w, length p + length (recordOf r v))
+  reader-takes-a-record s p v w ok e = Runs.here-there r inner s p v w ok e
+
+  pub reader-ends : (s : List ℕ) (p : ℕ) → length s ≤ p → hereAt r s p ≡ ended
+  reader-ends s p h = Runs.here-end r s p h
+
   -- "two lists of values never give the same bytes"
-  pub two-lists-differ : (us vs : List (Values r)) → All (Allowed r) us → All (Allowed r) vs → runOf r us ≡ runOf r vs → us ≡ vs
-  two-lists-differ us vs p q e = Runs.run-injective r run-clear us vs p q e
+  pub two-lists-differ : (us vs : List (Values r)) → All (Right r) us → All (Right r) vs → runOf r us ≡ runOf r vs → us ≡ vs
+  two-lists-differ us vs p q e = Runs.run-injective r inner us vs p q e
 
   -- "no record is the beginning of a longer one"
-  pub no-beginning : (u v : Values r) → Allowed r u → Allowed r v → (rest : List ℕ) → recordOf r u ++ rest ≡ recordOf r v → rest ≡ []
+  pub no-beginning : (u v : Values r) → Right r u → Right r v → (rest : List ℕ) → recordOf r u ++ rest ≡ recordOf r v → rest ≡ []
   unfolding encode
   no-beginning u v a b rest e =
-      let p = prefix-free (node sequence r) k u v rest [] (a .0) (b .0) (omega (arith, a .1)) (omega (arith, b .1)) (e ∙ sym (mathlib.Core.List.append-nil (recordOf r v))) in p .1
+      let p = prefix-free (node sequence r) k u v rest [] (a .0) (b .0) (omega (arith, a .1)) (omega (arith, b .1)) (e ∙ sym (append-nil (recordOf r v))) in p .1
 
 -- "equal signed bytes mean equal fields, the seal included"
 pub equal-signed-bytes : (w x : List ℕ) (u v : Values signature) → readRecord signature w ≡ good u → readRecord signature x ≡ good v
-    → Record.signedBytes SignedPart signature u ≡ Record.signedBytes SignedPart signature v → (Record.signedPartOf u ≡ Record.signedPartOf v) × (Record.sealOf u ≡ Record.sealOf v)
+    → signedBytes SignedPart signature u ≡ signedBytes SignedPart signature v → (signedPartOf u ≡ signedPartOf v) × (sealOf u ≡ sealOf v)
 equal-signed-bytes w x u v e g h = Record.equal-signature w x u v e g h
 
 pub equal-sealed-bytes : (w x : List ℕ) (u v : Values seal) → readRecord seal w ≡ good u → readRecord seal x ≡ good v
-    → Record.signedBytes SealInformation seal u ≡ Record.signedBytes SealInformation seal v → Record.informationOf u ≡ Record.informationOf v
+    → signedBytes SealInformation seal u ≡ signedBytes SealInformation seal v → informationOf u ≡ informationOf v
 equal-sealed-bytes w x u v e g h = Record.equal-seal w x u v e g h
 
 -- "a signature's sheet begins with its seal's"
-pub sheet-begins-with-the-seal's : (v : Values signature) → (rest : List ℕ) × (sheets signature v ≡ sheets seal (Record.sealOf v) ++ rest)
+pub sheet-begins-with-the-seal's : (v : Values signature) → (rest : List ℕ) × (sheets signature v ≡ sheets seal (sealOf v) ++ rest)
 sheet-begins-with-the-seal's v = Record.sheet-begins v
 
 -- ---- demand 2: "The verdict is the first step of the standard that fails on the findings, or valid."
 
-pub signature-first : (x : Facts) → Verdict.First signatureSteps signatureValid x (firstFailing signatureSteps signatureValid x)
-signature-first x = Verdict.first-failing signatureSteps signatureValid x
+-- "after refusals of the record, then 18"
+pub verdict-of-a-refused : (w : List ℕ) (n p : ℕ) (f : Findings) (a b : List ℕ) → readRecord signature w ≡ fault n p → signatureVerdict w f a b ≡ Refused n p
+unfolding signatureVerdict
+verdict-of-a-refused w n p f a b e = rw e (Verdict.weigh-refused signatureSteps signatureValid signature n p f a b)
 
-pub seal-first : (x : Facts) → Verdict.First sealSteps sealValid x (firstFailing sealSteps sealValid x)
-seal-first x = Verdict.first-failing sealSteps sealValid x
+pub verdict-of-unreal-times : (w : List ℕ) (v : Values signature) (f : Findings) (a b : List ℕ) → readRecord signature w ≡ good v → T (not (allReal f)) → signatureVerdict w f a b ≡ Refused unreal-time 0
+unfolding signatureVerdict
+verdict-of-unreal-times w v f a b e h = rw e (Verdict.weigh-unreal signatureSteps signatureValid signature v f a b h)
 
--- "A notice goes with 0 and 26 to 34"; "gives no notice"
-pub signature-notice : (x : Facts) → firstFailing signatureSteps signatureValid x .carries ≡ Verdict.takesNotice (firstFailing signatureSteps signatureValid x .number)
-signature-notice x = Verdict.signature-notice x
+-- else the answer is the first failing row of the table, and the notice goes with 0 and 26 to 34 exactly when the maker is out of force now and at signing
+pub verdict-is-the-first : (w : List ℕ) (v : Values signature) (f : Findings) (a b : List ℕ) → readRecord signature w ≡ good v → T (allReal f)
+    → (signatureVerdict w f a b ≡ judged (firstFailing signatureSteps signatureValid (factsOf signature v f a b)) (factsOf signature v f a b))
+    × First signatureSteps signatureValid (factsOf signature v f a b) (firstFailing signatureSteps signatureValid (factsOf signature v f a b))
+unfolding signatureVerdict
+verdict-is-the-first w v f a b e h = (rw e (Verdict.weigh-judged signatureSteps signatureValid signature v f a b h), Verdict.first-failing signatureSteps signatureValid (factsOf signature v f a b))
 
-pub seal-no-notice : (x : Facts) → firstFailing sealSteps sealValid x .carries ≡ false
-seal-no-notice x = Verdict.seal-notice x
+pub notice-goes-with : (x : Facts) → judged (firstFailing signatureSteps signatureValid x) x
+    ≡ Judged (firstFailing signatureSteps signatureValid x .number) (takesNotice (firstFailing signatureSteps signatureValid x .number) && makerOut x)
+unfolding judged
+notice-goes-with x = rw (Verdict.signature-notice x)
+
+-- the seal verdict likewise, with no notice
+pub seal-verdict-of-a-refused : (w : List ℕ) (n p : ℕ) (f : Findings) (a b : List ℕ) → readRecord seal w ≡ fault n p → sealVerdict w f a b ≡ Refused n p
+unfolding sealVerdict
+seal-verdict-of-a-refused w n p f a b e = rw e (Verdict.weigh-refused sealSteps sealValid seal n p f a b)
+
+pub seal-verdict-of-unreal-times : (w : List ℕ) (v : Values seal) (f : Findings) (a b : List ℕ) → readRecord seal w ≡ good v → T (not (allReal f)) → sealVerdict w f a b ≡ Refused unreal-time 0
+unfolding sealVerdict
+seal-verdict-of-unreal-times w v f a b e h = rw e (Verdict.weigh-unreal sealSteps sealValid seal v f a b h)
+
+pub seal-verdict-is-the-first : (w : List ℕ) (v : Values seal) (f : Findings) (a b : List ℕ) → readRecord seal w ≡ good v → T (allReal f)
+    → (sealVerdict w f a b ≡ Judged (firstFailing sealSteps sealValid (factsOf seal v f a b) .number) false)
+    × First sealSteps sealValid (factsOf seal v f a b) (firstFailing sealSteps sealValid (factsOf seal v f a b))
+unfolding sealVerdict judged
+seal-verdict-is-the-first w v f a b e h =
+    (rw (e, Verdict.weigh-judged sealSteps sealValid seal v f a b h, Verdict.seal-notice (factsOf seal v f a b)), Verdict.first-failing sealSteps sealValid (factsOf seal v f a b))
 
 -- ---- integers: "One to eight two's-complement bytes become i64 and return", for every i64, both ends included
 

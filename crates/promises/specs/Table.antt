@@ -1,14 +1,14 @@
 -- "Proved, as a single table with a single statement": P1 to P14 of document 01. Assumes nothing.
 use mathlib.Core.Path.{_≡_}
 use Prim.Native.Nat.{ℕ}
-use mathlib.Core.Bool.{true, false}
+use mathlib.Core.Bool.{true}
 use mathlib.Core.List.{List, [], _∷_}
-use lib.IntN.{ℤ, pos, negsuc}
+use lib.IntN.{negsuc}
 use Rattle.terms.specs.Numbers.{done, bad-length, bad-integer, bad-character, bad-time, bad-identifier, valid, signer-revoked}
 use Rattle.terms.specs.Answer.{Res, good, fault, Got, Told, gives, refuses, told-none, told-one, refusal, answered}
 use Rattle.terms.specs.Laws.Table.{Row, asks, answers, agreed}
 use Rattle.heads.specs.Head.{size}
-use Rattle.contents.specs.Content.{Check, fine, wrong, Leaf}
+use Rattle.contents.specs.Content.{Leaf, toldCheck}
 use Rattle.contents.specs.Integer.{value, any}
 use Rattle.contents.specs.Leaves.{may-be-empty, integer, identifier, utf8String, generalizedTime}
 use Rattle.layouts.specs.Layout.{leaf}
@@ -30,10 +30,6 @@ abbrev aLength : List ℕ → Told
 aLength w = answered (λ z. z .0) (size 0 w)
 
 -- a content, by its rule
-abbrev toldCheck : Check → Told
-toldCheck fine = told-none done
-toldCheck (wrong n x) = refuses n []
-
 abbrev aContent : Leaf → List ℕ → Told
 aContent l x = toldCheck (l .rule x)
 

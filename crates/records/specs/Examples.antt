@@ -1,16 +1,16 @@
 -- Records S and D, evaluated. Assumes nothing.
 use mathlib.Core.Path.{_≡_, refl}
-use Prim.Native.Nat.{ℕ, _+_}
-use mathlib.Core.Bool.{Bool, true, false, _&&_}
-use mathlib.Core.Option.{Option, none, some}
+use Prim.Native.Nat.{ℕ}
+use mathlib.Core.Bool.{Bool, true, _&&_}
+use mathlib.Core.Option.{Option}
 use mathlib.Core.List.{List, [], _∷_, _++_}
-use lib.ListN.{length, set, take, drop}
+use lib.ListN.{replicate, set, take, drop}
 use lib.IntN.{ℤ, pos, negsuc}
 use Rattle.terms.specs.declared.Field.{Field}
-use Rattle.terms.specs.declared.Field.the-variants.{SealInformation, Header, Vendor, SealId, Property, SealType, SealName, ListKind, CertificateList, ListedCertificate, ListedEntry, ListedName, ListedDigest, Created, Start, End, Picture, PictureType, PictureData, Width, Height, SealCustomData, SealCustomItem, SealCustomId, SealCustomCritical, SealCustomValue, MakerCertificate, SealAlgorithm, SealSignedValue, SignedPart, Seal, SigningTime, OriginalDigest, PropertyText, SignedCustomData, SignedCustomItem, SignedCustomId, SignedCustomCritical, SignedCustomValue, SignerCertificate, SignatureAlgorithm, SignatureValue, Stamp}
+use Rattle.terms.specs.declared.Field.the-variants.{SealInformation, Vendor, SealId, SealType, SealName, ListKind, CertificateList, ListedCertificate, ListedName, ListedDigest, Created, Start, End, Picture, PictureType, PictureData, Width, Height, SealCustomData, SealCustomId, SealCustomCritical, SealCustomValue, MakerCertificate, SealAlgorithm, SealSignedValue, SignedPart, SigningTime, OriginalDigest, PropertyText, SignedCustomData, SignedCustomId, SignedCustomCritical, SignedCustomValue, SignerCertificate, SignatureAlgorithm, SignatureValue, Stamp}
 use Rattle.terms.specs.Names.{code, sameName}
 use Rattle.terms.specs.Numbers.{done, absent, other-tag, bad-boolean, left-over, bad-length, item-missing}
-use Rattle.terms.specs.Answer.{Res, good, fault, pick, bind, need, have, every, enough, same, Told, gives, told-one, told-two, told-none, refusal, answered}
+use Rattle.terms.specs.Answer.{Res, good, fault, pick, bind, need, have, every, enough, same, Told, gives, told-one, told-two, told-none, refusal}
 use Rattle.terms.specs.Laws.Table.{Row, asks, answers, sameWhole, sameWholes, sameTold, agree, agreed}
 use Rattle.terms.specs.Digits.{digits, numberFrom, leading}
 use Rattle.heads.specs.Head.{spell, octets, tlv, unspell, size, opening, cut, head, outermost}
@@ -18,20 +18,20 @@ use Rattle.contents.specs.Content.{ask, passes, placeOf, judge}
 use Rattle.contents.specs.Integer.{sign, shortest, wellFormed, turned, value, shrink, signOf, stretch, unstretch}
 use Rattle.contents.specs.Text.{within, starts, follows, textFrom, partsFrom, isIdentifier}
 use Rattle.contents.specs.Time.{leap, monthLength, possible, isDigit, partFrom, zulu, timeFrom, timeCheck, timeRule}
-use Rattle.contents.specs.Rules.{integerRule, stringRule, octetsRule, bitsRule, identifierRule, booleanRule}
-use Rattle.layouts.specs.Layout.{Run, Values, each, option, either, critical, encode}
-use Rattle.layouts.specs.Reading.{readLeaf, begins, finish, many, readOption, readFlag, readEither, read}
+use Rattle.contents.specs.Rules.{integerRule, stringRule, octetsRule, bitsRule, identifierRule, booleanRule, also, onlyRule}
+use Rattle.layouts.specs.Layout.{Values, each, option, either, critical, encode}
+use Rattle.layouts.specs.Reading.{readBy, begins, finish, many, readOption, readFlag, readEither, read}
 use Rattle.layouts.specs.Sheet.{count, section, bit, sheetOption, sheetList, sheet, readCount, readSection, fillLeaf, times, unbit, fillFlag, fillOption, fillList, fill}
 use Rattle.layouts.specs.Whole.{recordAt, accept, finishSheet, acceptSheet, fit, fillSheet, writeRecord}
 use Rattle.layouts.specs.Fields.{Entry, eachFields, optionFields, eitherFields, flagFields, itemFields, fields, isField, first, bytesIn, isThere}
 use Rattle.layouts.specs.Fields as Fields
 use Rattle.records.specs.Record.{seal, signature}
-use Rattle.records.specs.Handing.{readRecord, readSignature, recordAnswer, fillAnswer, fillFrom, writeAnswer, writeFrom, fieldAnswer, isListed, matchAnswer, isInteger, valueAnswer, criticalAnswer, isItemOf, isList, countAnswer}
+use Rattle.records.specs.Handing.{readSignature, recordAnswer, fillAnswer, writeAnswer, fieldAnswer, isListed, matchAnswer, isOneOf, valueAnswer, criticalAnswer, isItemOf, countAnswer}
 use Rattle.records.specs.Samples.{recordS, recordD}
 
 -- to name this one on a line is to name all that a reading, a sheet and a handing out compute with
 unfoldable pub evaluate : Unit {0}
-unfolding code sameName pick bind need have every enough same digits numberFrom leading spell octets tlv unspell size opening cut head outermost ask passes placeOf judge sign shortest wellFormed turned value shrink signOf stretch unstretch within starts follows textFrom partsFrom isIdentifier leap monthLength possible isDigit partFrom zulu timeFrom timeCheck timeRule integerRule stringRule octetsRule bitsRule identifierRule booleanRule each option either critical encode readLeaf begins finish many readOption readFlag readEither read count section bit sheetOption sheetList sheet readCount readSection fillLeaf times unbit fillFlag fillOption fillList fill recordAt accept finishSheet acceptSheet fit fillSheet writeRecord eachFields optionFields eitherFields flagFields itemFields fields isField first Fields.count bytesIn isThere recordAnswer fillAnswer writeAnswer fieldAnswer isListed matchAnswer isInteger valueAnswer criticalAnswer isItemOf isList countAnswer sameWhole sameWholes sameTold agree
+unfolding code sameName pick bind need have every enough same digits numberFrom leading spell octets tlv unspell size opening cut head outermost ask passes placeOf judge sign shortest wellFormed turned value shrink signOf stretch unstretch within starts follows textFrom partsFrom isIdentifier leap monthLength possible isDigit partFrom zulu timeFrom timeCheck timeRule integerRule stringRule octetsRule bitsRule identifierRule booleanRule also onlyRule each option either critical encode readBy begins finish many readOption readFlag readEither read count section bit sheetOption sheetList sheet readCount readSection fillLeaf times unbit fillFlag fillOption fillList fill recordAt accept finishSheet acceptSheet fit fillSheet writeRecord eachFields optionFields eitherFields flagFields itemFields fields isField first Fields.count bytesIn isThere recordAnswer fillAnswer writeAnswer fieldAnswer isListed matchAnswer isOneOf valueAnswer criticalAnswer isItemOf countAnswer sameWhole sameWholes sameTold agree
 evaluate = tt
 
 abbrev at : ℕ → ℕ → Told
@@ -46,8 +46,8 @@ whole z = gives done (z ∷ [])
 abbrev sealS : List ℕ
 sealS = take 115 (drop 9 recordS)
 
-abbrev plenty : ℕ
-plenty = 65536
+abbrev plenty : List ℕ
+plenty = replicate 300 0x5A
 
 -- "The seal has 115 bytes (sheet 163), the record 165 (sheet 222). Signed bytes: 145 from offset 3; the seal's: 96 from offset 11."
 abbrev numbersS : List Row
@@ -56,7 +56,6 @@ numbersS =
     ∷ (fillAnswer seal sealS plenty, told-one done 163)
     ∷ (recordAnswer signature recordS, told-one done 165)
     ∷ (fillAnswer signature recordS plenty, told-one done 222)
-    ∷ (fieldAnswer signature Seal 0 recordS, at 9 115)
     ∷ (fieldAnswer signature SignedPart 0 recordS, at 3 145)
     ∷ (fieldAnswer signature SealInformation 0 recordS, at 11 96)
     ∷ (fieldAnswer seal SealInformation 0 sealS, at 2 96)
@@ -165,6 +164,9 @@ answersD =
     ∷ (fieldAnswer signature ListedCertificate 0 recordD, told-none absent)
     ∷ (fieldAnswer signature ListedDigest 2 recordD, told-none absent)
     ∷ (fieldAnswer signature Stamp 0 recordS, told-none absent)
+    ∷ (fieldAnswer signature Width 0 recordD, told-none absent)
+    ∷ (fieldAnswer signature Picture 0 recordD, told-none absent)
+    ∷ (fieldAnswer signature SealCustomCritical 0 recordD, told-none absent)
     ∷ (fieldAnswer signature Vendor 0 (0x30 ∷ 0x80 ∷ []), refusal bad-length 0)
     ∷ []
 
@@ -193,7 +195,6 @@ slipRows =
     (recordAnswer signature digestsAsKind1, refusal other-tag 49)
     ∷ (recordAnswer signature falseWritten, refusal bad-boolean 146)
     ∷ (recordAnswer signature emptyCustom, told-one done 167)
-    ∷ (fieldAnswer signature SealCustomData 0 emptyCustom, at 107 2)
     ∷ (countAnswer signature SealCustomData emptyCustom, told-one done 0)
     ∷ (countAnswer signature SealCustomData recordS, told-none absent)
     ∷ (fillAnswer signature emptyCustom plenty, told-one done 226)

@@ -5,15 +5,15 @@ use mathlib.Core.Option.{Option, none, some}
 use mathlib.Core.List.{List, [], _∷_}
 use lib.ListN.{length}
 use Rattle.terms.specs.declared.Field.{Field}
-use Rattle.terms.specs.declared.Field.the-variants.{SealType, ListKind, CertificateList, ListedCertificate, ListedEntry, ListedDigest, Width, Height, SealCustomData, SealCustomItem, SealCustomCritical, SignedCustomData, SignedCustomItem, SignedCustomCritical}
+use Rattle.terms.specs.declared.Field.the-variants.{CertificateList, Created, End, Height, ListKind, ListedCertificate, ListedDigest, ListedEntry, ListedName, MakerCertificate, OriginalDigest, PictureData, PictureType, PropertyText, SealAlgorithm, SealCustomCritical, SealCustomData, SealCustomId, SealCustomItem, SealCustomValue, SealId, SealInformation, SealName, SealSignedValue, SealType, SignatureAlgorithm, SignatureValue, SignedCustomCritical, SignedCustomData, SignedCustomId, SignedCustomItem, SignedCustomValue, SignedPart, SignerCertificate, SigningTime, Stamp, Start, Vendor, Width}
 use Rattle.terms.specs.Names.{sameName}
 use Rattle.terms.specs.Numbers.{done, absent, largest-record}
-use Rattle.terms.specs.Answer.{Res, good, fault, pick, same, Told, gives, told-one, told-two, told-none, refusal, answered}
+use Rattle.terms.specs.Answer.{Res, good, fault, pick, same, bit, Told, gives, told-one, told-two, told-none, refusal, answered}
 use Rattle.contents.specs.Integer.{value}
-use Rattle.layouts.specs.Layout.{Run, Values}
-use Rattle.layouts.specs.Whole.{accept, fillSheet, writeRecord}
+use Rattle.layouts.specs.Layout.{Members, Values}
+use Rattle.layouts.specs.Whole.{accept, fillSheet, writeRecord, stored}
 use Rattle.layouts.specs.Fields.{Entry, fields, isField, first, count, isThere, bytesIn}
-use Rattle.records.specs.Record.{seal, signature}
+use Rattle.records.specs.Record.{sealInformation, seal, signedPart, signature}
 use Rattle.records.specs.declared.Part.{Part}
 use Rattle.records.specs.declared.Part.the-variants.{There, Absent as NoPart, Refused as PartRefused}
 use Rattle.records.specs.declared.Whole.{Whole}
@@ -25,31 +25,35 @@ use Rattle.records.specs.declared.Items.the-variants.{Count, Absent as N
 
 -- ---- whole records
 
-abbrev pub readRecord : (r : Run) → List ℕ → Res (Values r)
+abbrev pub readRecord : (r : Members) → List ℕ → Res (Values r)
 readRecord r w = accept largest-record r w
-
-abbrev pub readSeal : List ℕ → Res (Values seal)
-readSeal w = readRecord seal w
 
 abbrev pub readSignature : List ℕ → Res (Values signature)
 readSignature w = readRecord signature w
 
 -- "ACCEPTED and its length, or REFUSED, number, place"
-unfoldable pub recordAnswer : Run → List ℕ → Told
+unfoldable pub recordAnswer : Members → List ℕ → Told
 recordAnswer r w = answered (λ v. length w) (readRecord r w)
 
 -- what is filled from a record, and written from a sheet, into a destination of `room` bytes
-abbrev pub fillFrom : Run → List ℕ → ℕ → Res (List ℕ)
+abbrev pub fillFrom : Members → List ℕ → ℕ → Res (List ℕ)
 fillFrom r w room = fillSheet largest-record r w room
 
-abbrev pub writeFrom : Run → List ℕ → ℕ → Res (List ℕ)
+abbrev pub writeFrom : Members → List ℕ → ℕ → Res (List ℕ)
 writeFrom r x room = writeRecord largest-record r x room
 
-unfoldable pub fillAnswer : Run → List ℕ → ℕ → Told
-fillAnswer r w room = answered (λ x. length x) (fillFrom r w room)
+-- the answer, and the bytes of the destination `d` after it
+unfoldable pub fillAnswer : Members → List ℕ → List ℕ → Told
+fillAnswer r w d = answered (λ x. length x) (fillFrom r w (length d))
 
-unfoldable pub writeAnswer : Run → List ℕ → ℕ → Told
-writeAnswer r x room = answered (λ w. length w) (writeFrom r x room)
+unfoldable pub fillAfter : Members → List ℕ → List ℕ → List ℕ
+fillAfter r w d = stored (fillFrom r w (length d)) d
+
+unfoldable pub writeAnswer : Members → List ℕ → List ℕ → Told
+writeAnswer r x d = answered (λ w. length w) (writeFrom r x (length d))
+
+unfoldable pub writeAfter : Members → List ℕ → List ℕ → List ℕ
+writeAfter r x d = stored (writeFrom r x (length d)) d
 
 -- ---- of an accepted record
 
@@ -63,43 +67,50 @@ abbrev pub toldEntry : Option Entry → Told
 toldEntry none = told-none absent
 toldEntry (some x) = told-two done (x .place) (length (x .bytes))
 
+-- "the bytes its section has, or the signed bytes": the fields that are handed out as parts. Integers and critical come as values.
+abbrev partNames : List Field
+partNames =
+    SealInformation ∷ Vendor ∷ SealId ∷ SealName ∷ ListedCertificate ∷ ListedName ∷ ListedDigest ∷ Created ∷ Start
+    ∷ End ∷ PictureType ∷ PictureData ∷ SealCustomId ∷ SealCustomValue ∷ MakerCertificate ∷ SealAlgorithm ∷ SealSignedValue ∷ SignedPart
+    ∷ SigningTime ∷ OriginalDigest ∷ PropertyText ∷ SignedCustomId ∷ SignedCustomValue ∷ SignerCertificate ∷ SignatureAlgorithm ∷ SignatureValue ∷ Stamp ∷ []
+
+unfoldable pub isOneOf : List Field → Field → Bool
+isOneOf [] f = false
+isOneOf (x ∷ xs) f = sameName x f || isOneOf xs f
+
 -- "in a list by index, absent past the last"
-unfoldable pub fieldAnswer : Run → Field → ℕ → List ℕ → Told
-fieldAnswer r f k w = asked (readRecord r w) λ v. toldEntry (first (isField f k) (fields r v))
+unfoldable pub fieldAnswer : Members → Field → ℕ → List ℕ → Told
+fieldAnswer r f k w = asked (readRecord r w) λ v. toldEntry (pick (isOneOf partNames f) (first (isField f k) (fields r v)) none)
 
 -- "the first equal entry in the record. For kind 1 the given bytes are compared with the certificates; for kind 2 the part is the digest."
 unfoldable pub isListed : List ℕ → Entry → Bool
 isListed given x = (sameName ListedCertificate (x .name) || sameName ListedDigest (x .name)) && same given (x .bytes)
 
-unfoldable pub matchAnswer : Run → List ℕ → List ℕ → Told
+unfoldable pub matchAnswer : Members → List ℕ → List ℕ → Told
 matchAnswer r given w = asked (readRecord r w) λ v. toldEntry (first (isListed given) (fields r v))
 
 -- "Integers and critical come as values."
-unfoldable pub isInteger : Field → Bool
-isInteger f = sameName SealType f || (sameName ListKind f || (sameName Width f || sameName Height f))
+abbrev integerNames : List Field
+integerNames = SealType ∷ ListKind ∷ Width ∷ Height ∷ []
 
 abbrev toldValue : Bool → Option Entry → Told
 toldValue false x = told-none absent
 toldValue true none = told-none absent
 toldValue true (some x) = gives done (value (x .bytes) ∷ [])
 
-unfoldable pub valueAnswer : Run → Field → List ℕ → Told
-valueAnswer r f w = asked (readRecord r w) λ v. toldValue (isInteger f) (first (isField f 0) (fields r v))
+unfoldable pub valueAnswer : Members → Field → List ℕ → Told
+valueAnswer r f w = asked (readRecord r w) λ v. toldValue (isOneOf integerNames f) (first (isField f 0) (fields r v))
 
 -- the custom item that a critical belongs to
 abbrev pub ownerOf : Field → Option Field
 ownerOf f = pick (sameName SealCustomCritical f) (some SealCustomItem) (pick (sameName SignedCustomCritical f) (some SignedCustomItem) none)
-
-abbrev bit : Bool → ℕ
-bit true = 1
-bit false = 0
 
 abbrev toldCritical : Option Field → Field → ℕ → List Entry → Told
 toldCritical none f k xs = told-none absent
 toldCritical (some g) f k xs = pick (isThere (first (isField g k) xs)) (told-one done (bit (isThere (first (isField f k) xs)))) (told-none absent)
 
 -- a critical that is left out is false; past the last item it is absent
-unfoldable pub criticalAnswer : Run → Field → ℕ → List ℕ → Told
+unfoldable pub criticalAnswer : Members → Field → ℕ → List ℕ → Told
 criticalAnswer r f k w = asked (readRecord r w) λ v. toldCritical (ownerOf f) f k (fields r v)
 
 -- whether a name is that of an item of the list
@@ -108,14 +119,30 @@ isItemOf f g =
     (sameName CertificateList f && (sameName ListedCertificate g || sameName ListedEntry g))
     || ((sameName SealCustomData f && sameName SealCustomItem g) || (sameName SignedCustomData f && sameName SignedCustomItem g))
 
-unfoldable pub isList : Field → Bool
-isList f = sameName CertificateList f || (sameName SealCustomData f || sameName SignedCustomData f)
+abbrev listNames : List Field
+listNames = CertificateList ∷ SealCustomData ∷ SignedCustomData ∷ []
 
 -- "Absent and present-with-no-items are different field values."
-unfoldable pub countAnswer : Run → Field → List ℕ → Told
+unfoldable pub countAnswer : Members → Field → List ℕ → Told
 countAnswer r f w =
     asked (readRecord r w) λ v.
-    pick (isList f && isThere (first (isField f 0) (fields r v))) (told-one done (count (λ x. isItemOf f (x .name)) (fields r v))) (told-none absent)
+    pick (isOneOf listNames f && isThere (first (isField f 0) (fields r v))) (told-one done (count (λ x. isItemOf f (x .name)) (fields r v))) (told-none absent)
+
+-- ---- signed bytes
+
+-- "Signed bytes are the signed part, or the seal information, with its own tag and length."
+unfoldable pub signedBytes : Field → (r : Members) → Values r → List ℕ
+signedBytes f r v = bytesIn (first (isField f 0) (fields r v))
+
+-- the values of what is signed, and of a signature record's seal
+abbrev pub informationOf : Values seal → Values sealInformation
+informationOf v = v .0
+
+abbrev pub signedPartOf : Values signature → Values signedPart
+signedPartOf v = v .0
+
+abbrev pub sealOf : Values signature → Values seal
+sealOf v = signedPartOf v .1 .0
 
 -- ---- what the code's answers say in the paper's terms
 

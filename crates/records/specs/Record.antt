@@ -1,7 +1,6 @@
 -- The layouts of document 01, "Layout (000, 6.1 and 7.1)", line by line; the parts of a structure stand above it. Assumes nothing.
+use mathlib.Core.Bool.{true, false}
 use mathlib.Core.Bool.{Bool, true, false}
-use mathlib.Core.List.{List, [], _∷_}
-use Prim.Native.Nat.{ℕ}
 use Rattle.terms.specs.declared.Field.{Field}
 use Rattle.terms.specs.declared.Field.the-variants.{SealInformation, Header, Vendor, SealId, Property, SealType, SealName, ListKind, CertificateList, ListedCertificate, ListedEntry, ListedName, ListedDigest, Created, Start, End, Picture, PictureType, PictureData, Width, Height, SealCustomData, SealCustomItem, SealCustomId, SealCustomCritical, SealCustomValue, MakerCertificate, SealAlgorithm, SealSignedValue, SignedPart, Seal, SigningTime, OriginalDigest, PropertyText, SignedCustomData, SignedCustomItem, SignedCustomId, SignedCustomCritical, SignedCustomValue, SignerCertificate, SignatureAlgorithm, SignatureValue, Stamp}
 use Rattle.terms.specs.Numbers.{not-allowed, not-es, most-items}
@@ -9,7 +8,7 @@ use Rattle.contents.specs.Content.{Leaf}
 use Rattle.contents.specs.Integer.{value, any, is, isKind, isMillimetres}
 use Rattle.contents.specs.Rules.{es, four}
 use Rattle.contents.specs.Leaves.{may-be-empty, needs-a-byte, integer, bitString, octetString, identifier, utf8String, printableString, ia5String, generalizedTime}
-use Rattle.layouts.specs.Layout.{Item, leaf, node, list, wrap, Run, end, _▸_, Member, known, one, maybe, flag, choose}
+use Rattle.layouts.specs.Layout.{Item, leaf, node, list, wrap, Members, end, _▸_, Member, known, one, maybe, flag, choose}
 use Rattle.layouts.specs.Whole.{sequence}
 
 -- ---- ways of writing it
@@ -19,8 +18,15 @@ abbrev field : Field → Leaf → Member
 field f l = one f (leaf l)
 
 -- a field that is a SEQUENCE
-abbrev part : Field → Run → Member
+abbrev part : Field → Members → Member
 part f r = one f (node sequence r)
+
+-- "of 1 to 64 items", "of 0 to 64"
+abbrev one-or-more : Bool
+one-or-more = false
+
+abbrev none-or-more : Bool
+none-or-more = true
 
 -- "INTEGER 4"
 abbrev version : Member
@@ -33,27 +39,27 @@ tagged-0 i = wrap 0xA0 i
 -- ---- the seal
 
 -- "Header, SEQUENCE: IA5String "ES"; INTEGER 4; vendor, IA5String."
-abbrev pub header : Run
+abbrev pub header : Members
 header = known (ia5String needs-a-byte) es not-es ▸ version ▸ field Vendor (ia5String may-be-empty) ▸ end
 
 -- "Certificate list, SEQUENCE of 1 to 64 items. Kind 1: each a certificate, OCTET STRING."
 abbrev pub certificates : Item
-certificates = list sequence false most-items ListedCertificate (leaf (octetString needs-a-byte))
+certificates = list sequence one-or-more most-items ListedCertificate (leaf (octetString needs-a-byte))
 
 -- "Kind 2: each a SEQUENCE of a PrintableString and a digest, OCTET STRING."
 abbrev pub digests : Item
-digests = list sequence false most-items ListedEntry (node sequence (field ListedName (printableString may-be-empty) ▸ field ListedDigest (octetString needs-a-byte) ▸ end))
+digests = list sequence one-or-more most-items ListedEntry (node sequence (field ListedName (printableString may-be-empty) ▸ field ListedDigest (octetString needs-a-byte) ▸ end))
 
 -- "Property, SEQUENCE: type, INTEGER; name, UTF8String; list kind, INTEGER 1 or 2; certificate list; created, start and end, GeneralizedTime."
 -- "The kind already read decides."
-abbrev pub property : Run
+abbrev pub property : Members
 property =
     field SealType (integer any) ▸ field SealName (utf8String may-be-empty)
     ▸ choose ListKind (integer isKind) (λ c. is 1 (value c)) CertificateList certificates digests
     ▸ field Created generalizedTime ▸ field Start generalizedTime ▸ field End generalizedTime ▸ end
 
 -- "Picture, SEQUENCE: type, IA5String; data, OCTET STRING; width and height in mm, INTEGER 1 to 65,535 (a house bound)."
-abbrev pub picture : Run
+abbrev pub picture : Members
 picture =
     field PictureType (ia5String needs-a-byte) ▸ field PictureData (octetString needs-a-byte)
     ▸ field Width (integer isMillimetres) ▸ field Height (integer isMillimetres) ▸ end
@@ -62,29 +68,29 @@ picture =
 -- It stands in a seal and in a signed part, under names of each.
 abbrev pub customData : Field → Field → Field → Field → Item
 customData item id critical value′ =
-    list sequence true most-items item (node sequence (field id identifier ▸ flag critical ▸ field value′ (octetString may-be-empty) ▸ end))
+    list sequence none-or-more most-items item (node sequence (field id identifier ▸ flag critical ▸ field value′ (octetString may-be-empty) ▸ end))
 
 -- "Seal information, SEQUENCE: header; seal id, IA5String; property; picture; custom data, optional, untagged."
-abbrev pub sealInformation : Run
+abbrev pub sealInformation : Members
 sealInformation =
     part Header header ▸ field SealId (ia5String needs-a-byte) ▸ part Property property ▸ part Picture picture
     ▸ maybe SealCustomData (customData SealCustomItem SealCustomId SealCustomCritical SealCustomValue) ▸ end
 
 -- "Seal, SEQUENCE: seal information; maker certificate, OCTET STRING; algorithm, OBJECT IDENTIFIER; signed value, BIT STRING."
-abbrev pub seal : Run
+abbrev pub seal : Members
 seal = part SealInformation sealInformation ▸ field MakerCertificate (octetString needs-a-byte) ▸ field SealAlgorithm identifier ▸ field SealSignedValue bitString ▸ end
 
 -- ---- the signature record
 
 -- "Signed part, SEQUENCE: INTEGER 4; seal; signing time, GeneralizedTime; original digest, BIT STRING; property text, IA5String;
 -- custom data, [0], optional."
-abbrev pub signedPart : Run
+abbrev pub signedPart : Members
 signedPart =
     version ▸ part Seal seal ▸ field SigningTime generalizedTime ▸ field OriginalDigest bitString ▸ field PropertyText (ia5String needs-a-byte)
     ▸ maybe SignedCustomData (tagged-0 (customData SignedCustomItem SignedCustomId SignedCustomCritical SignedCustomValue)) ▸ end
 
 -- "Signature record, SEQUENCE: signed part; signer certificate, OCTET STRING; algorithm; signature, BIT STRING; stamp, [0] BIT STRING, optional."
-abbrev pub signature : Run
+abbrev pub signature : Members
 signature =
     part SignedPart signedPart ▸ field SignerCertificate (octetString needs-a-byte) ▸ field SignatureAlgorithm identifier ▸ field SignatureValue bitString
     ▸ maybe Stamp (tagged-0 (leaf bitString)) ▸ end

@@ -1,4 +1,4 @@
--- Record S of document 01, and record D, in which every field is different. Assumes nothing.
+-- Record S of document 01, and record D, in which no two fields of one kind have the same content. Assumes nothing.
 use Prim.Native.Nat.{ℕ}
 use mathlib.Core.List.{List, [], _∷_}
 

@@ -4,9 +4,9 @@ use mathlib.Core.List.{List, [], _∷_}
 use lib.ListN.{length, drop}
 use lib.IntN.{pos}
 use lib.Dec.{ltb}
-use Rattle.terms.specs.Numbers.{done, run-end, too-many-items, largest-record}
+use Rattle.terms.specs.Numbers.{done, run-end, largest-record}
 use Rattle.terms.specs.Answer.{Res, good, fault, Got, pick, Told, refuses, told-one, told-two, told-none}
-use Rattle.layouts.specs.Layout.{Run, Values, each}
+use Rattle.layouts.specs.Layout.{Members, Values, each}
 use Rattle.layouts.specs.Whole.{recordOf, recordAt}
 use Rattle.runs.specs.declared.Stepped.{Stepped}
 use Rattle.runs.specs.declared.Stepped.the-variants.{Record, End, Refused as StepRefused}
@@ -14,7 +14,7 @@ use Rattle.runs.specs.declared.Counted.{Counted}
 use Rattle.runs.specs.declared.Counted.the-variants.{Records, Refused as RunRefused}
 
 -- the bytes of a list of records
-abbrev pub runOf : (r : Run) → List (Values r) → List ℕ
+abbrev pub runOf : (r : Members) → List (Values r) → List ℕ
 runOf r vs = each (λ v. recordOf r v) vs
 
 -- a refusal with the number of records before it
@@ -36,14 +36,14 @@ unfoldable pub onward : {A : Type 0} → Res (Got A) → (Got A → Ran A) → R
 onward (good a) k = k a
 onward (fault n p) k = stopped [] n p
 
--- records from the front of a window to its end; `k` counts down, and no run has more records than bytes (`Laws.Run.enough`)
-unfoldable pub runFrom : ℕ → (r : Run) → List ℕ → ℕ → Ran (Values r)
+-- records from the front of a window to its end; `k` counts down, and never cuts a run short (`Laws.Run.enough`)
+unfoldable pub runFrom : ℕ → (r : Members) → List ℕ → ℕ → Ran (Values r)
 runFrom zero r w b = whole []
 runFrom (suc k) r [] b = whole []
 runFrom (suc k) r (x ∷ w) b = onward (recordAt largest-record r (x ∷ w) b) λ a. andThen (a .0) (runFrom k r (a .1) (a .2))
 
 -- "No bytes are a run of no records." "a record's end is no fault 5"
-unfoldable pub readRun : (r : Run) → List ℕ → Ran (Values r)
+unfoldable pub readRun : (r : Members) → List ℕ → Ran (Values r)
 readRun r w = runFrom (length w) r w 0
 
 -- "In a run, the answer also has the number of records before the fault"
@@ -51,7 +51,7 @@ abbrev pub toldRan : {A : Type 0} → Ran A → Told
 toldRan (whole vs) = told-one done (length vs)
 toldRan (stopped vs n p) = refusal-after n p (length vs)
 
-unfoldable pub runAnswer : Run → List ℕ → Told
+unfoldable pub runAnswer : Members → List ℕ → Told
 runAnswer r w = toldRan (readRun r w)
 
 -- ---- the run reader
@@ -75,12 +75,12 @@ abbrev pub hereOf : {A : Type 0} → Res (Got A) → Here A
 hereOf (good a) = taken a
 hereOf (fault n p) = faulty n p
 
-unfoldable pub hereIn : (r : Run) → List ℕ → ℕ → Here (Values r)
+unfoldable pub hereIn : (r : Members) → List ℕ → ℕ → Here (Values r)
 hereIn r [] p = ended
 hereIn r (x ∷ w) p = hereOf (recordAt largest-record r (x ∷ w) p)
 
 -- "At any other position it reads as if a record began there, past the end as at the end"
-unfoldable pub hereAt : (r : Run) → List ℕ → ℕ → Here (Values r)
+unfoldable pub hereAt : (r : Members) → List ℕ → ℕ → Here (Values r)
 hereAt r s p = hereIn r (drop p s) p
 
 -- its number's type: u64
@@ -97,7 +97,7 @@ afterHere (taken a) x = record { position = a .2; handed = oneMore (x .handed) }
 afterHere ended x = x
 afterHere (faulty n p) x = x
 
-unfoldable pub stepAfter : (r : Run) → List ℕ → Reader → Reader
+unfoldable pub stepAfter : (r : Members) → List ℕ → Reader → Reader
 stepAfter r s x = afterHere (hereAt r s (x .position)) x
 
 abbrev pub toldHere : {A : Type 0} → Here A → Reader → Told
@@ -105,8 +105,14 @@ toldHere (taken a) x = told-two done (x .position) (a .2 - x .position)
 toldHere ended x = told-none run-end
 toldHere (faulty n p) x = refusal-after n p (x .handed)
 
-unfoldable pub stepAnswer : (r : Run) → List ℕ → Reader → Told
+unfoldable pub stepAnswer : (r : Members) → List ℕ → Reader → Told
 stepAnswer r s x = toldHere (hereAt r s (x .position)) x
+
+-- "empty, at the run's start" (03, 37): start and length of what a step hands out
+abbrev pub handedOut : Stepped → ℕ × ℕ
+handedOut (Record a n) = (a, n)
+handedOut End = (0, 0)
+handedOut (StepRefused n p k) = (0, 0)
 
 -- ---- what the code's answers say in the paper's terms
 

@@ -55,7 +55,7 @@ same (x ∷ xs) [] = false
 same (x ∷ xs) (y ∷ ys) = eqb x y && same xs ys
 
 -- An answer in the paper's terms, its number and its values: what was done, found or judged; or a refusal, its place the first value.
--- Each enum that a function answers has a definition into this type.
+-- Each enum that is an answer to a caller has a definition into this type.
 pub data Told : Type 0 where
   gives : ℕ → List ℤ → Told
   refuses : ℕ → List ℤ → Told
@@ -71,6 +71,10 @@ told-two n x y = gives n (pos x ∷ pos y ∷ [])
 
 abbrev pub refusal : ℕ → ℕ → Told
 refusal n p = refuses n (pos p ∷ [])
+
+abbrev pub bit : Bool → ℕ
+bit true = 1
+bit false = 0
 
 -- a reading whose value is told as a number
 abbrev pub answered : {A : Type 0} → (A → ℕ) → Res A → Told

@@ -1,4 +1,4 @@
--- Document 01's numbers by name, and the bounds that it sets. Each stands here and nowhere else. Assumes nothing.
+-- Document 01's numbers by name, and the bounds of records and lists. Assumes nothing.
 use Prim.Native.Nat.{ℕ}
 
 -- ---- refusals (01, "Refusal numbers")
@@ -114,6 +114,9 @@ signer-out-at-stamp = 34
 
 abbrev pub done : ℕ
 done = 0
+
+abbrev pub no-findings : ℕ
+no-findings = 253
 
 abbrev pub absent : ℕ
 absent = 254

@@ -1,4 +1,4 @@
-// The names that the paper gives to what a record holds, in record order.
+// What a seal and a signature record hold, by name: the seal's parts in the order of a seal, then the signature record's.
 // A list's items are counted by an index beside the name.
 pub enum Field {
     SealInformation,

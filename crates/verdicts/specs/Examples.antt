@@ -1,4 +1,4 @@
--- Findings G for record S, findings H for record D, and each verdict reached from them. Assumes nothing.
+-- Findings G for record S, findings for record D, and each verdict reached from them. Assumes nothing.
 use mathlib.Core.Path.{_≡_}
 use Prim.Native.Nat.{ℕ}
 use mathlib.Core.Bool.{Bool, true, false}
@@ -29,7 +29,7 @@ evaluateVerdict = tt
 abbrev pub certificate : Bool → Bool → ℕ → ℕ → Revocation → CertificateFacts
 certificate c u a z r = record { chain = c; usage = u; dates = record { first = a; last = z }; revocation = r }
 
--- sealed, signed and valid, but for what the rows below change
+-- both signature values, now, maker, signer, the seal's withdrawal and the stamp
 abbrev pub findings : Bool → Bool → ℕ → CertificateFacts → CertificateFacts → Revocation → Stamping → Findings
 findings a b n m s w t = record { signature = a; sealing = b; now = n; maker = m; signer = s; seal = record { withdrawn = w }; stamp = record { state = t } }
 
@@ -49,7 +49,7 @@ onS f = toldVerdict (signatureVerdict recordS f dd [])
 
 -- ---- S
 
--- with the notice, and without
+-- without the notice, and with it
 abbrev pub plain : ℕ → Told
 plain n = told-one n 0
 

@@ -11,7 +11,6 @@ use Rattle.verdicts.specs.declared.CertificateFacts.{CertificateFacts}
 use Rattle.verdicts.specs.declared.SealFacts.{SealFacts}
 use Rattle.verdicts.specs.declared.Stamping.{Stamping}
 use Rattle.verdicts.specs.declared.Stamping.the-variants.{Unchecked, Bad, Good}
-use Rattle.verdicts.specs.declared.StampFacts.{StampFacts}
 use Rattle.verdicts.specs.declared.Findings.{Findings}
 
 -- ---- at a moment

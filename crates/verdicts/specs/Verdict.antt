@@ -1,14 +1,17 @@
 -- The two verdicts: tables of numbered steps, and the first that holds (000, 6.3 and 7.3). Assumes nothing.
 use Prim.Native.Nat.{ℕ}
 use mathlib.Core.Bool.{Bool, true, false, not, _&&_, _||_}
-use mathlib.Core.List.{List, [], _∷_}
+use mathlib.Core.List.{List, [], _∷_, _++_}
+use mathlib.Core.Path.{_≡_}
+use mathlib.Core.Logic.{_⊎_}
+use lib.Dec.{T, leb, eqb}
 use Rattle.terms.specs.declared.Field.{Field}
 use Rattle.terms.specs.declared.Field.the-variants.{ListKind, Start, End, SigningTime, OriginalDigest, SignerCertificate, Stamp}
 use Rattle.terms.specs.Numbers.{valid, unreal-time, signature-bad, signer-unlisted, seal-bad, maker-bad, maker-out-of-force, outside-period, seal-withdrawn, signer-bad, outside-dates, signer-revoked, digest-differs, stamp-bad, after-stamp, signer-out-at-stamp}
-use Rattle.terms.specs.Answer.{Res, good, fault, pick, same, Told, told-one, refusal}
+use Rattle.terms.specs.Answer.{Res, good, fault, pick, same, every, bit, Told, told-one, refusal}
 use Rattle.contents.specs.Integer.{value, is}
 use Rattle.contents.specs.Time.{Moment, notLater, momentOf, momentAt}
-use Rattle.layouts.specs.Layout.{Run, Values}
+use Rattle.layouts.specs.Layout.{Members, Values}
 use Rattle.layouts.specs.Fields.{Entry, fields, isField, first, bytesIn, isThere}
 use Rattle.records.specs.Record.{seal, signature}
 use Rattle.records.specs.Handing.{readRecord, isListed}
@@ -33,13 +36,22 @@ unfoldable pub firstFailing : {A : Type 0} → List (Step A) → Step A → A �
 firstFailing [] none x = none
 firstFailing (s ∷ ss) none x = pick (s .fails x) s (firstFailing ss none x)
 
+-- none of the rows fails
+abbrev pub Pass : {A : Type 0} → List (Step A) → A → Type 0
+Pass ss x = T (every (λ s. not (s .fails x)) ss)
+
+-- what it is to be the first: no row fails and it is the last row, or it fails and no row before it does
+abbrev pub First : {A : Type 0} → List (Step A) → Step A → A → Step A → Type 0
+First {A} ss none x s =
+    (Pass ss x × (s ≡ none)) ⊎ ((earlier : List (Step A)) × (later : List (Step A)) × (ss ≡ earlier ++ s ∷ later) × Pass earlier x × T (s .fails x))
+
 -- ---- what the steps look at
 
 pub record Facts : Type 0 where
   pub entries : List Entry
   pub found : Findings
-  pub original : List ℕ
-  pub signers : List ℕ
+  pub original : List ℕ  -- the original digest that was found
+  pub signer : List ℕ  -- the signer's digest that was found
 
 -- a field of the record, by its name
 unfoldable pub the : Field → Facts → List ℕ
@@ -60,7 +72,7 @@ inPeriod x t = between (moment Start x) (moment End x) t
 
 -- "kind 1, .. the signer certificate; kind 2, .. the signer's digest"
 unfoldable pub sought : Facts → List ℕ
-sought x = pick (is 1 (value (the ListKind x))) (the SignerCertificate x) (x .signers)
+sought x = pick (is 1 (value (the ListKind x))) (the SignerCertificate x) (x .signer)
 
 unfoldable pub listed : Facts → Bool
 listed x = isThere (first (isListed (sought x)) (x .entries))
@@ -78,15 +90,19 @@ noted = true
 
 abbrev pub signatureSteps : List (Step Facts)
 signatureSteps =
+    -- b, c
     step signature-bad silent (λ x. not (x .found .signature))
     ∷ step signer-unlisted silent (λ x. not (listed x))
+    -- d
     ∷ step seal-bad silent (λ x. not (x .found .sealing))
     ∷ step maker-bad silent (λ x. not (sound (x .found .maker)))
     ∷ step outside-period noted (λ x. not (inPeriod x (signing x)))
     ∷ step seal-withdrawn noted (λ x. withdrawnBy (x .found .seal) (signing x))
+    -- e, f
     ∷ step signer-bad noted (λ x. not (sound (x .found .signer)))
     ∷ step outside-dates noted (λ x. not (withinDates (x .found .signer .dates) (signing x)))
     ∷ step signer-revoked noted (λ x. revokedBy (x .found .signer .revocation) (signing x))
+    -- g, h
     ∷ step digest-differs noted (λ x. not (same (x .original) (the OriginalDigest x)))
     ∷ step stamp-bad noted (λ x. stamped x && not (stampGood (x .found .stamp .state)))
     ∷ step after-stamp noted (λ x. stamped x && stampTime (x .found .stamp .state) (λ t. not (notLater (signing x) t)))
@@ -115,27 +131,27 @@ sealValid = step valid silent (λ x. true)
 unfoldable pub makerOut : Facts → Bool
 makerOut x = not (inForce (x .found .maker) (now x)) && not (inForce (x .found .maker) (signing x))
 
+-- "A notice goes with 0 and 26 to 34"
+unfoldable pub takesNotice : ℕ → Bool
+takesNotice n = eqb n valid || (leb outside-period n && leb n signer-out-at-stamp)
+
 unfoldable pub judged : Step Facts → Facts → Verdict
 judged s x = Judged (s .number) (s .carries && makerOut x)
 
 -- "after refusals of the record, then 18"
-unfoldable pub weigh : List (Step Facts) → Step Facts → (r : Run) → Res (Values r) → Findings → List ℕ → List ℕ → Verdict
-weigh steps none r (fault n p) f original signers = Refused n p
-weigh steps none r (good v) f original signers =
-    let x : Facts = record { entries = fields r v; found = f; original = original; signers = signers } in
+unfoldable pub weigh : List (Step Facts) → Step Facts → (r : Members) → Res (Values r) → Findings → List ℕ → List ℕ → Verdict
+weigh steps none r (fault n p) f original signer = Refused n p
+weigh steps none r (good v) f original signer =
+    let x : Facts = record { entries = fields r v; found = f; original = original; signer = signer } in
     pick (allReal f) (judged (firstFailing steps none x) x) (Refused unreal-time 0)
 
 unfoldable pub signatureVerdict : List ℕ → Findings → List ℕ → List ℕ → Verdict
-signatureVerdict w f original signers = weigh signatureSteps signatureValid signature (readRecord signature w) f original signers
+signatureVerdict w f original signer = weigh signatureSteps signatureValid signature (readRecord signature w) f original signer
 
 unfoldable pub sealVerdict : List ℕ → Findings → List ℕ → List ℕ → Verdict
-sealVerdict w f original signers = weigh sealSteps sealValid seal (readRecord seal w) f original signers
+sealVerdict w f original signer = weigh sealSteps sealValid seal (readRecord seal w) f original signer
 
 -- ---- a verdict in the paper's terms
-
-abbrev bit : Bool → ℕ
-bit true = 1
-bit false = 0
 
 abbrev pub toldVerdict : Verdict → Told
 toldVerdict (Judged n notice) = told-one n (bit notice)

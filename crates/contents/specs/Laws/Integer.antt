@@ -2,19 +2,17 @@
 use mathlib.Core.Path.{_≡_, refl, sym, ap, ap₂, _∙_}
 use Prim.Native.Nat.{ℕ, suc, zero, _+_, _-_, _*_, _/_, _%_, _^_, _≤_, _<_}
 use native.Mathlib.Omega.{arith}
-use mathlib.Core.Bool.{Bool, true, false, not, _&&_}
-use mathlib.Core.Option.{Option, none, some}
+use mathlib.Core.Option.{none, some}
 use mathlib.Core.List.{List, [], _∷_, _++_}
 use lib.ListN.{length, replicate, length-append, length-replicate}
 use lib.Dec.{T, leb, ltb, eqb, eqb→eq, eqb-refl, ltb→lt, leb→le, le→leb, lt→ltb, nltb→le}
-use borrow.Author.Tests.{lt-ltb, le-ltb, le-leb, eq-eqb}
+use borrow.Author.Tests.{lt-ltb, le-ltb}
 use lib.IntN.{ℤ, pos, negsuc}
-use lib.Signed.{mag}
 use Rattle.terms.specs.Answer.{pick, every}
 use Rattle.terms.specs.Digits.{digits, number, numberFrom, isByte}
 use Rattle.terms.specs.Laws.Answer.{test, and-l, and-r, both, pick-yes, pick-no}
 use Rattle.terms.specs.Laws.Digits.{number-of-digits, digits-number, length-digits, digits-small, number-small, number-split}
-use Rattle.contents.specs.Integer.{sign, shortest, widest, wellFormed, turned, value, eight, shrink, contentOf, signOf, stretch, unstretch}
+use Rattle.contents.specs.Integer.{sign, shortest, widest, wellFormed, turned, value, eight, shrink, contentOf, signOf, stretch, unstretch, Fits}
 
 -- ---- a content and its eight bytes
 
@@ -98,10 +96,6 @@ unfolding stretch
 stretch-near c = omega (arith, length-append (replicate (widest - length c) (signOf c)) c, length-replicate (widest - length c) (signOf c))
 
 -- ---- a content and its number
-
--- a number that eight bytes hold: `mag z` is z, or -1 - z of a negative z
-abbrev pub Fits : ℤ → Type 0
-Fits z = mag z < 2 ^ 63
 
 abbrev bytes : List ℕ → Type 0
 bytes c = T (every isByte c)

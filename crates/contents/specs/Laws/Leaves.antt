@@ -1,19 +1,18 @@
 -- A content and its section: each is made of the other. Assumes nothing.
-use mathlib.Core.Path.{_≡_, refl, sym, ap, _∙_}
+use mathlib.Core.Path.{_≡_, refl, sym, ap}
 use Prim.Native.Nat.{ℕ, _+_, _≤_}
 use native.Mathlib.Omega.{arith}
-use mathlib.Core.Bool.{Bool, true, false, _&&_}
-use mathlib.Core.Option.{Option, none, some}
-use mathlib.Core.List.{List, [], _∷_, _++_}
+use mathlib.Core.Bool.{Bool, true, false}
+use mathlib.Core.Option.{some}
+use mathlib.Core.List.{List, [], _∷_}
 use lib.ListN.{length, drop, length-drop}
-use lib.Dec.{T, leb, eqb, eqb→eq}
+use lib.Dec.{T, leb, eqb→eq}
 use lib.IntN.{ℤ}
-use Rattle.terms.specs.Numbers.{bad-integer, not-allowed, bad-bits}
 use Rattle.terms.specs.Answer.{Res, good}
 use Rattle.terms.specs.Laws.Answer.{clash, and-l, and-r}
-use Rattle.contents.specs.Content.{Check, fine, wrong, tag, ask, passes, judge}
-use Rattle.contents.specs.Integer.{shortest, wellFormed, value, widest, stretch, unstretch}
-use Rattle.contents.specs.Rules.{integerRule, bitsRule, booleanRule}
+use Rattle.contents.specs.Content.{Check, fine, wrong, ask, passes, judge}
+use Rattle.contents.specs.Integer.{shortest, wellFormed, widest, stretch, unstretch}
+use Rattle.contents.specs.Rules.{integerRule, bitsRule}
 use Rattle.contents.specs.Laws.Integer.{stretch-there}
 
 -- ---- what a rule went through
@@ -40,6 +39,10 @@ plain-back x c h = cc
 
 pub plain-near : (c : List ℕ) → length c ≤ 8 + length c
 plain-near c = omega arith
+
+-- what is handed out of a string is the bytes that its section has
+pub plain-shown : (c : List ℕ) → drop 0 c ≡ c
+plain-shown c = refl
 
 -- ---- an integer's
 

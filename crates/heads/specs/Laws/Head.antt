@@ -1,18 +1,16 @@
 -- A head that was written is read, and what was read was written so. Assumes nothing.
-use mathlib.Core.Path.{_≡_, refl, sym, ap, _∙_, subst}
-use Prim.Native.Nat.{ℕ, suc, zero, _+_, _^_, _≤_, _<_}
+use mathlib.Core.Path.{_≡_, refl, sym, ap, _∙_}
+use Prim.Native.Nat.{ℕ, _+_, _^_, _≤_, _<_}
 use native.Mathlib.Omega.{arith}
-use mathlib.Core.Bool.{Bool, true, false, not, _&&_}
-use mathlib.Core.Option.{Option, none, some}
+use mathlib.Core.Bool.{Bool, true, _&&_}
 use mathlib.Core.List.{List, [], _∷_, _++_, append-assoc}
 use lib.ListN.{length, take, drop, length-append, take-append-drop}
 use lib.Seq.{take-append-seam, drop-append-seam, length-take-le}
-use lib.Dec.{T, leb, ltb, eqb, eqb→eq, leb→le, le→leb, ltb→lt, lt→ltb, nltb→le, eqb-refl, not-T}
-use borrow.Author.Tests.{lt-ltb, le-ltb, le-leb, eq-eqb, ne-eqb}
-use Rattle.terms.specs.Numbers.{bad-length, other-tag}
-use Rattle.terms.specs.Answer.{Res, good, fault, pick, bind, need, have}
-use Rattle.terms.specs.Digits.{digits, leading}
-use Rattle.terms.specs.Laws.Answer.{clash, good-inj, test, and-l, and-r, pick-yes, pick-no, by-bind, by-need, by-have, by-pair, by-three, bind-eq, need-eq}
+use lib.Dec.{T, leb, ltb, eqb, eqb→eq, leb→le, le→leb, ltb→lt, lt→ltb, nltb→le, eqb-refl}
+use borrow.Author.Tests.{le-ltb, le-leb, eq-eqb, ne-eqb}
+use Rattle.terms.specs.Answer.{good, bind, need, have}
+use Rattle.terms.specs.Digits.{digits}
+use Rattle.terms.specs.Laws.Answer.{clash, good-inj, test, and-l, and-r, pick-yes, pick-no, by-bind, by-need, by-have, bind-eq, need-eq}
 use Rattle.terms.specs.Laws.Digits.{leading-there, leading-back}
 use Rattle.heads.specs.Head.{Form, forms, unspelled, spell, octets, tlv, Size, unspell, size, opening, Cut, before, cut, head, outermost}
 

@@ -1,23 +1,23 @@
 -- Heads by positions: what each step of reading one comes to, with premises as code has them. Assumes nothing.
 use mathlib.Core.Path.{_≡_, refl, sym, ap, ap₂, _∙_, subst}
-use Prim.Native.Nat.{ℕ, suc, zero, _+_, _-_, _*_, _/_, _%_, _^_, _≤_, _<_}
+use Prim.Native.Nat.{ℕ, suc, _+_, _-_, _*_, _/_, _%_, _^_, _≤_, _<_}
 use native.Mathlib.Omega.{arith}
-use mathlib.Core.Bool.{Bool, true, false, not, _&&_}
+use mathlib.Core.Bool.{Bool, true, false}
 use mathlib.Core.Option.{Option, none, some}
-use mathlib.Core.List.{List, [], _∷_, _++_}
+use mathlib.Core.List.{List, [], _∷_}
 use lib.ListN.{length, getD, take, drop, length-append, length-take, drop-of-length-le}
 use lib.Seq.{slice, slice-cons, length-slice, length-take-le, take-all, take-length}
-use lib.Dec.{T, leb, ltb, eqb, ltb→lt, leb→le, nltb→le, nleb→lt, lt→ltb, le→leb, lit≤}
+use lib.Dec.{leb, ltb, eqb, ltb→lt, leb→le, nltb→le, nleb→lt, lt→ltb, lit≤}
 use mir.Syntax.{w64}
 use mir.Val.{Fits}
 use borrow.Author.Tests.{lt-ltb, le-ltb, le-leb, lt-leb, eq-eqb, ne-eqb}
 use Rattle.terms.specs.Numbers.{item-missing, other-tag, bad-length, past-end, too-large}
-use Rattle.terms.specs.Answer.{Res, good, fault, pick, bind, need, have, every}
-use Rattle.terms.specs.Digits.{digits, numberFrom, leading}
+use Rattle.terms.specs.Answer.{Res, good, fault, pick, bind, need, have}
+use Rattle.terms.specs.Digits.{digits, leading}
 use Rattle.terms.specs.Laws.Digits.{leading-there, length-digits}
-use Rattle.terms.specs.Laws.Answer.{test, pick-yes, pick-no, clash, good-inj, by-need, bind-eq}
+use Rattle.terms.specs.Laws.Answer.{test, pick-yes, pick-no, clash, by-need, bind-eq}
 use Rattle.heads.specs.Head as Head
-use Rattle.heads.specs.Head.{forms, spell, octets, tlv, Size, unspell, size, opening, Cut, before, cut, head, outermost}
+use Rattle.heads.specs.Head.{forms, spell, octets, Size, unspell, size, opening, before, cut, head, outermost}
 use Rattle.heads.specs.Laws.Head.{size-back, octets-below}
 use Rattle.heads.specs.Scan.{seen, headAt, outermostAt}
 use Rattle.items.specs.Scan.{tagByte, Tells, clamp, formOf, spelled, lengthAt, opened, openingAt}

@@ -1,28 +1,21 @@
--- Each field's bytes stand at its place in the record, and are the bytes that its section has: for every layout. Assumes nothing.
-use mathlib.Core.Path.{_≡_, refl, sym, ap, ap₂, _∙_}
-use mathlib.Core.Logic.{_⊎_, inl, inr}
-use Prim.Native.Nat.{ℕ, suc, zero, _+_, _≤_, _<_}
+-- Each field's bytes stand at its place in the record: for every layout. Assumes nothing.
+use mathlib.Core.Path.{_≡_, refl, sym, ap, _∙_}
+use mathlib.Core.Logic.{inl, inr}
+use Prim.Native.Nat.{ℕ, suc, _+_, _<_}
 use native.Mathlib.Omega.{arith}
 use mathlib.Core.Bool.{Bool, true, false}
-use mathlib.Core.Option.{Option, none, some}
+use mathlib.Core.Option.{none, some}
 use mathlib.Core.List.{List, [], _∷_, _++_, append-assoc, append-nil}
 use lib.ListN.{length, take, drop, length-append, drop-of-length-le}
 use lib.Seq.{take-at, drop-at, drop-drop, drop-append-le}
-use lib.Dec.{T, leb, leb→le, nleb→lt}
+use lib.Dec.{leb, leb→le, nleb→lt}
 use Rattle.terms.specs.declared.Field.{Field}
-use Rattle.terms.specs.Answer.{pick}
 use Rattle.terms.specs.Laws.Answer.{test, pick-yes, pick-no}
 use Rattle.heads.specs.Head.{tlv, octets, before}
-use Rattle.heads.specs.Laws.Head.{length-tlv}
-use Rattle.contents.specs.Content.{Leaf, Check, fine}
 use Rattle.contents.specs.Leaves.{boolean}
-use Rattle.layouts.specs.Layout.{Item, leaf, node, list, wrap, Run, end, _▸_, Member, known, one, maybe, flag, choose, Value, Values, Part, All, each, option, either, critical, encode, encodes, encodePart}
-use Rattle.layouts.specs.Fields.{Entry, entry, eachFields, optionFields, eitherFields, flagFields, itemFields, runFields, partFields, fields, first}
+use Rattle.layouts.specs.Layout.{Item, leaf, node, list, wrap, Members, end, _▸_, Member, known, one, maybe, flag, choose, Values, All, each, option, either, critical, encode, encodes, encodePart}
+use Rattle.layouts.specs.Fields.{Entry, eachFields, optionFields, eitherFields, flagFields, itemFields, runFields, partFields, fields, Stands, first}
 use Rattle.layouts.specs.Whole.{sequence, recordOf}
-
--- the field's bytes stand at its place in the record
-abbrev pub Stands : List ℕ → Entry → Type 0
-Stands s x = take (length (x .bytes)) (drop (x .place) s) ≡ x .bytes
 
 -- bytes that stand after others
 stands-after : (s p x z : List ℕ) (b : ℕ) → s ≡ p ++ (x ++ z) → length p ≡ b → take (length x) (drop b s) ≡ x
@@ -106,7 +99,7 @@ module _ (s : List ℕ) where
         let n = inside s p z t (encode i v) q in
         rw (n .1) at (item-placed i f k v (p ++ (t ∷ octets (length (encode i v)))) z (n .0))
 
-    run-placed : (r : Run) (k : ℕ) → Placed s (λ v. encodes r v) (λ v b. runFields r k v b)
+    run-placed : (r : Members) (k : ℕ) → Placed s (λ v. encodes r v) (λ v b. runFields r k v b)
     run-placed end k v p z q = tt
     run-placed (m ▸ r) k v p z q =
         let n = past s p (encodePart m (v .0)) (encodes r (v .1)) z q in
@@ -126,7 +119,7 @@ module _ (s : List ℕ) where
         (leaf-stands s p (y ++ z) (l .tag) (l .hidden) (v .0) (n .0), rw (n .2) at u)
 
 -- the fields of a record stand in it
-pub fields-stand : (r : Run) (v : Values r) → All (Stands (recordOf r v)) (fields r v)
+pub fields-stand : (r : Members) (v : Values r) → All (Stands (recordOf r v)) (fields r v)
 unfolding fields
 fields-stand r v =
     let c : List ℕ = encodes r v in

@@ -1,31 +1,29 @@
 -- What is written is read back, and what is read was written so: for every layout. Assumes nothing.
-use mathlib.Core.Path.{_≡_, refl, sym, ap, ap₂, _∙_, subst}
-use mathlib.Core.Logic.{_⊎_, inl, inr}
+use mathlib.Core.Path.{_≡_, refl, sym, ap, _∙_}
+use mathlib.Core.Logic.{inl, inr}
 use Prim.Native.Nat.{ℕ, suc, zero, _+_, _≤_, _<_}
 use native.Mathlib.Omega.{arith}
 use mathlib.Core.Bool.{Bool, true, false, not, _&&_}
 use mathlib.Core.Option.{Option, none, some}
 use mathlib.Core.List.{List, [], _∷_, _++_, append-assoc, append-nil}
 use lib.ListN.{length, length-append}
-use lib.Dec.{T, leb, ltb, eqb, eqb→eq, eqb-refl}
+use lib.Dec.{T, leb, ltb, eqb}
 use borrow.Author.Tests.{eq-eqb}
-use Rattle.terms.specs.declared.Field.{Field}
-use Rattle.terms.specs.Numbers.{too-many-items}
-use Rattle.terms.specs.Answer.{Res, good, fault, Got, pick, bind, need, enough, same}
-use Rattle.terms.specs.Laws.Answer.{clash, good-inj, test, and-l, and-r, is-true, is-false, pick-yes, pick-no, by-bind, by-need, same-eq, same-refl, bind-eq, need-eq}
-use Rattle.heads.specs.Head.{Cut, head, tlv, octets, before, unspelled}
+use Rattle.terms.specs.Answer.{Res, good, Got, pick, bind, need, enough, same}
+use Rattle.terms.specs.Laws.Answer.{clash, good-inj, test, and-l, and-r, is-true, is-false, pick-yes, pick-no, by-bind, by-need, same-eq, same-refl}
+use Rattle.heads.specs.Head.{Cut, tlv, octets, before, unspelled}
 use Rattle.heads.specs.Laws.Head.{head-tlv, head-back, length-tlv}
-use Rattle.contents.specs.Content.{Spot, Check, fine, wrong, Leaf, judge, passes}
+use Rattle.contents.specs.Content.{Check, fine, wrong, ask, judge, passes}
 use Rattle.contents.specs.Leaves.{boolean}
-use Rattle.contents.specs.Rules.{booleanRule}
+use Rattle.contents.specs.Rules.{yes-byte, booleanRule, also, onlyRule}
 use Rattle.contents.specs.Laws.Leaves.{by-judge, by-ask, passed}
-use Rattle.layouts.specs.Layout.{Item, leaf, node, list, wrap, Run, end, _▸_, Member, known, one, maybe, flag, choose, tagOf, Value, Values, Part, All, InOption, InEither, Ok, Oks, OkPart, each, option, either, critical, encode, encodes, encodePart}
-use Rattle.layouts.specs.Reading.{next, readLeaf, begins, finish, many, readOption, readFlag, readEither, read, reads, readPart}
+use Rattle.layouts.specs.Layout.{Item, leaf, node, list, wrap, Members, end, _▸_, Member, known, one, maybe, flag, choose, tagOf, Value, Values, Part, All, InOption, InEither, Ok, Oks, OkPart, each, option, either, critical, encode, encodes, encodePart}
+use Rattle.layouts.specs.Reading.{next, readBy, begins, finish, many, readOption, readFlag, readEither, read, reads, readPart}
 
 -- ---- layouts in which what may be missing cannot be mistaken, what is known is allowed, and no list is too long to count
 
 -- no value of the run begins with the tag
-unfoldable pub apart : ℕ → Run → Bool
+unfoldable pub apart : ℕ → Members → Bool
 apart t end = true
 apart t (known l c n ▸ r) = not (eqb (l .tag) t)
 apart t (one f i ▸ r) = not (eqb (tagOf i) t)
@@ -34,7 +32,7 @@ apart t (flag f ▸ r) = not (eqb (boolean .tag) t) && apart t r
 apart t (choose f l g h i j ▸ r) = not (eqb (l .tag) t)
 
 -- what may be missing is told from what follows it
-unfoldable pub tells : Member → Run → Bool
+unfoldable pub tells : Member → Members → Bool
 tells (known l c n) r = true
 tells (one f i) r = true
 tells (maybe f i) r = apart (tagOf i) r
@@ -42,7 +40,7 @@ tells (flag f) r = apart (boolean .tag) r
 tells (choose f l g h i j) r = true
 
 -- how many bytes a run's sheet may have for members that have none in the record
-unfoldable pub spare : Run → ℕ
+unfoldable pub spare : Members → ℕ
 spare end = 0
 spare (known l c n ▸ r) = spare r
 spare (one f i ▸ r) = spare r
@@ -57,7 +55,7 @@ unfoldable mutual
   clear (list t e n f i) = ltb n 65536 && clear i
   clear (wrap t i) = clear i
 
-  pub clears : Run → Bool
+  pub clears : Members → Bool
   clears end = true
   clears (m ▸ r) = tells m r && (clearPart m && clears r)
 
@@ -88,17 +86,30 @@ glue w x y r r′ p m n h k i j =
 
 -- ---- a leaf
 
-pub leaf-forward : (l : Leaf) (c w : List ℕ) (b : ℕ) → l .rule c ≡ fine → length (tlv (l .tag) c) < unspelled → readLeaf l (tlv (l .tag) c ++ w) b ≡ good (c, w, b + before (length c))
-unfolding readLeaf bind judge
-leaf-forward l c w b ok h = let n = length-tlv (l .tag) c in rw (head-tlv (l .tag) c w b (omega arith), ok)
+pub leaf-forward : (t : ℕ) (r : List ℕ → Check) (c w : List ℕ) (b : ℕ) → r c ≡ fine → length (tlv t c) < unspelled → readBy t r (tlv t c ++ w) b ≡ good (c, w, b + before (length c))
+unfolding readBy bind judge
+leaf-forward t r c w b ok h = let n = length-tlv t c in rw (head-tlv t c w b (omega arith), ok)
 
-pub leaf-back : (l : Leaf) (w : List ℕ) (b : ℕ) (c : Cut) → readLeaf l w b ≡ good c → (w ≡ tlv (l .tag) (c .0) ++ c .1) × (l .rule (c .0) ≡ fine) × (next c ≡ b + length (tlv (l .tag) (c .0)))
-unfolding readLeaf
-leaf-back l w b x e =
+pub leaf-back : (t : ℕ) (r : List ℕ → Check) (w : List ℕ) (b : ℕ) (c : Cut) → readBy t r w b ≡ good c → (w ≡ tlv t (c .0) ++ c .1) × (r (c .0) ≡ fine) × (next c ≡ b + length (tlv t (c .0)))
+unfolding readBy
+leaf-back t r w b x e =
     by-bind _ _ _ e λ c e₁ e₂. by-judge _ _ _ _ _ e₂ λ ok e₃.
-    let q = head-back (l .tag) w b c e₁ in
-    let n = length-tlv (l .tag) (c .0) in
+    let q = head-back t w b c e₁ in
+    let n = length-tlv t (c .0) in
     rw (← good-inj e₃) (q .0, ok, omega arith)
+
+-- a content that has to be one known content
+only-there : (r : List ℕ → Check) (k : List ℕ) (n : ℕ) → r k ≡ fine → onlyRule r k n k ≡ fine
+unfolding onlyRule also ask
+only-there r k n h = rw (h, is-true (same k k) (same-refl k))
+
+only-back : (r : List ℕ → Check) (k : List ℕ) (n : ℕ) (c : List ℕ) → onlyRule r k n c ≡ fine → c ≡ k
+unfolding onlyRule also
+only-back r k n c h = go (r c) h
+  where
+    go : (x : Check) → also x (ask (same c k) n fine) ≡ fine → c ≡ k
+    go fine e = by-ask _ _ _ e λ t e₁. same-eq c k t
+    go (wrong m y) e = let z : _≡_ {A = ℕ} 0 1 = cc in let f : ⊥ = omega arith in absurd f
 
 -- ---- a list of items, to the end of the window
 
@@ -154,15 +165,15 @@ module _ {A : Type 0} (f : List ℕ → ℕ → Res (Got A)) (e : A → List ℕ
 -- ---- the flag
 
 abbrev yes : List ℕ
-yes = 0xFF ∷ []
+yes = yes-byte
 
 boolean-yes : booleanRule yes ≡ fine
-unfolding booleanRule same Rattle.contents.specs.Content.ask
+unfolding booleanRule same ask
 boolean-yes = refl
 
 pub flag-forward : (v : Bool) (w : List ℕ) (b : ℕ) → begins (boolean .tag) w ≡ false → length (critical v) < unspelled → readFlag (critical v ++ w) b ≡ good (v, w, b + length (critical v))
 unfolding readFlag critical bind pick begins tlv
-flag-forward true w b q h = rw (leaf-forward boolean yes w b boolean-yes h) (ap (λ (m : ℕ). good (true, w, m)) (let e = length-tlv (boolean .tag) yes in omega arith))
+flag-forward true w b q h = rw (leaf-forward (boolean .tag) (boolean .rule) yes w b boolean-yes h) (ap (λ (m : ℕ). good (true, w, m)) (let e = length-tlv (boolean .tag) yes in omega arith))
 flag-forward false w b q h = rw q (ap (λ (m : ℕ). good (false, w, m)) (omega arith))
 
 pub flag-back : Backward readFlag critical (λ v. Unit {0})
@@ -170,7 +181,7 @@ unfolding readFlag critical
 flag-back w b x q =
     test (begins (boolean .tag) w)
     (λ h. by-bind _ _ _ (sym (pick-yes (begins (boolean .tag) w) _ _ h) ∙ q) λ c e₁ e₂.
-    let u = leaf-back boolean w b c e₁ in
+    let u = leaf-back (boolean .tag) (boolean .rule) w b c e₁ in
     let v : c .0 ≡ yes = unfold booleanRule in by-ask _ _ _ (u .1) λ t e. same-eq (c .0) yes t in
     rw (← good-inj e₂) (rw v at (u .0), tt, u .2 ∙ ap (λ (y : List ℕ). b + length (tlv (boolean .tag) y)) v))
     (λ h. rw (← good-inj (sym (pick-no (begins (boolean .tag) w) _ _ h) ∙ q)) (refl, tt, omega arith))
@@ -218,7 +229,7 @@ unfolding critical
 begins-critical t true w p q = begins-tlv t (boolean .tag) yes w q
 begins-critical t false w p q = p
 
-begins-apart : (t : ℕ) (r : Run) (v : Values r) → T (apart t r) → begins t (encodes r v) ≡ false
+begins-apart : (t : ℕ) (r : Members) (v : Values r) → T (apart t r) → begins t (encodes r v) ≡ false
 unfolding begins encodes apart
 begins-apart t end v h = refl
 begins-apart t (known l c n ▸ r) v h = begins-tlv t (l .tag) c (encodes r (v .1)) h
@@ -243,7 +254,7 @@ Follows (maybe f i) w = begins (tagOf i) w ≡ false
 Follows (flag f) w = begins (boolean .tag) w ≡ false
 Follows (choose f l g h i j) w = Unit {0}
 
-follows : (m : Member) (r : Run) (v : Values r) → T (tells m r) → Follows m (encodes r v)
+follows : (m : Member) (r : Members) (v : Values r) → T (tells m r) → Follows m (encodes r v)
 unfolding tells
 follows (known l c n) r v h = tt
 follows (one f i) r v h = tt
@@ -265,7 +276,7 @@ mutual
   pub forward : (i : Item) → T (clear i) → Forward (λ w b. read i w b) (λ v. encode i v) (λ v. Ok i v)
   forward (leaf l) k v ok w b h =
       let m = length-tlv (l .tag) v in
-      rw (leaf-forward l v w b ok h) (ap (λ (m : ℕ). good (v, w, m)) (omega arith))
+      rw (leaf-forward (l .tag) (l .rule) v w b ok h) (ap (λ (m : ℕ). good (v, w, m)) (omega arith))
   forward (node t r) k v ok w b h =
       let m = length-tlv t (encodes r v) in
       rw (head-tlv t (encodes r v) w b (omega arith), forwards r (and-r (leb (spare r) 16) (clears r) k) v ok (b + before (length (encodes r v))) (omega arith))
@@ -285,7 +296,7 @@ mutual
       rw append-nil at (forward i k v ok [] (b + before (length (encode i v))) (omega arith)) in
       rw (head-tlv t (encode i v) w b (omega arith), s) (ap (λ (m : ℕ). good (v, w, m)) (omega arith))
 
-  pub forwards : (r : Run) → T (clears r) → (v : Values r) → Oks r v → (b : ℕ) → length (encodes r v) < unspelled → reads r (encodes r v) b ≡ good v
+  pub forwards : (r : Members) → T (clears r) → (v : Values r) → Oks r v → (b : ℕ) → length (encodes r v) < unspelled → reads r (encodes r v) b ≡ good v
   forwards end k v ok b h = refl
   forwards (m ▸ r) k v ok b h =
       let n = length-append (encodePart m (v .0)) (encodes r (v .1)) in
@@ -299,7 +310,7 @@ mutual
       → readPart m (encodePart m v ++ w) b ≡ good (v, w, b + length (encodePart m v))
   forwardPart (known l c n) k v ok w b q h =
       let m = length-tlv (l .tag) c in
-      rw (leaf-forward l c w b (passed (l .rule c) k) h, is-true (same c c) (same-refl c)) (ap (λ (m : ℕ). good (v, w, m)) (omega arith))
+      rw (leaf-forward (l .tag) (onlyRule (l .rule) c n) c w b (only-there (l .rule) c n (passed (l .rule c) k)) h) (ap (λ (m : ℕ). good (v, w, m)) (omega arith))
   forwardPart (one f i) k v ok w b q h = forward i k v ok w b h
   forwardPart (maybe f i) k v ok w b q h =
       option-forward (λ x p. read i x p) (λ x. encode i x) (λ x. Ok i x) (λ x o w p q. forward i k x o w p q) (tagOf i) (starts i) v ok w b q h
@@ -311,7 +322,7 @@ mutual
       let o : b + before (length (v .0)) + length (v .0) ≡ b + length x = omega (arith, length-tlv (l .tag) (v .0)) in
       rw (
         append-assoc x y w,
-        leaf-forward l (v .0) (y ++ w) b (ok .0) (omega arith),
+        leaf-forward (l .tag) (l .rule) (v .0) (y ++ w) b (ok .0) (omega arith),
         o,
         either-forward (λ x p. read i x p) (λ x. encode i x) (λ x. Ok i x) (λ x p. read j x p) (λ x. encode j x) (λ x. Ok j x) (t (v .0))
             (λ x o w p q. forward i (and-l (clear i) (clear j) k) x o w p q) (λ x o w p q. forward j (and-r (clear i) (clear j) k) x o w p q)
@@ -337,7 +348,7 @@ mutual
 
   pub backward : (i : Item) → Backward (λ w b. read i w b) (λ v. encode i v) (λ v. Ok i v)
   backward (leaf l) w b x q =
-      by-bind _ _ _ q λ a e₁ e₂. rw (← good-inj e₂) (leaf-back l w b a e₁)
+      by-bind _ _ _ q λ a e₁ e₂. rw (← good-inj e₂) (leaf-back (l .tag) (l .rule) w b a e₁)
   backward (node t r) w b x q =
       by-bind _ _ _ q λ c e₁ e₂. by-bind _ _ _ e₂ λ v e₃ e₄.
       let u = head-back t w b c e₁ in
@@ -360,7 +371,7 @@ mutual
       let n = length-tlv t (c .0) in
       rw (← good-inj e₆, ← y) (u .0, s .1, omega arith)
 
-  pub backwards : (r : Run) (w : List ℕ) (b : ℕ) (v : Values r) → reads r w b ≡ good v → (w ≡ encodes r v) × Oks r v
+  pub backwards : (r : Members) (w : List ℕ) (b : ℕ) (v : Values r) → reads r w b ≡ good v → (w ≡ encodes r v) × Oks r v
   backwards end w b v q = (finish-back w b v q, tt)
   backwards (m ▸ r) w b v q =
       by-bind _ _ _ q λ a e₁ e₂. by-bind _ _ _ e₂ λ x e₃ e₄.
@@ -370,16 +381,16 @@ mutual
 
   pub backwardPart : (m : Member) → Backward (λ w b. readPart m w b) (λ v. encodePart m v) (λ v. OkPart m v)
   backwardPart (known l c n) w b x q =
-      by-bind _ _ _ q λ a e₁ e₂. by-need _ _ _ _ _ e₂ λ h e₃.
-      let u = leaf-back l w b a e₁ in
-      let v = same-eq (a .0) c h in
-      rw (← good-inj e₃) (rw v at (u .0), tt, u .2 ∙ ap (λ (z : List ℕ). b + length (tlv (l .tag) z)) v)
+      by-bind _ _ _ q λ a e₁ e₂.
+      let u = leaf-back (l .tag) (onlyRule (l .rule) c n) w b a e₁ in
+      let v = only-back (l .rule) c n (a .0) (u .1) in
+      rw (← good-inj e₂) (rw v at (u .0), tt, u .2 ∙ ap (λ (z : List ℕ). b + length (tlv (l .tag) z)) v)
   backwardPart (one f i) w b x q = backward i w b x q
   backwardPart (maybe f i) w b x q = option-back (λ x p. read i x p) (λ x. encode i x) (λ x. Ok i x) (λ y p z g. backward i y p z g) (tagOf i) w b x q
   backwardPart (flag f) w b x q = flag-back w b x q
   backwardPart (choose f l t g i j) w b x q =
       by-bind _ _ _ q λ c e₁ e₂. by-bind _ _ _ e₂ λ a e₃ e₄.
-      let y = leaf-back l w b c e₁ in
+      let y = leaf-back (l .tag) (l .rule) w b c e₁ in
       let u = either-back (λ x p. read i x p) (λ x. encode i x) (λ x. Ok i x) (λ x p. read j x p) (λ x. encode j x) (λ x. Ok j x) (t (c .0)) (λ y p z g. backward i y p z g) (λ y p z g. backward j y p z g) (c .1) (next c) a e₃ in
       let z = glue w (tlv (l .tag) (c .0)) (either (λ x. encode i x) (λ x. encode j x) (a .0)) (c .1) (a .1) b (next c) (a .2) (y .0) (u .0) (y .2) (u .2) in
       rw (← good-inj e₄) (z .0, (y .1, u .1), z .1)

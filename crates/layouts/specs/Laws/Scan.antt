@@ -1,31 +1,30 @@
 -- Reading by positions is reading the window: `scan` agrees with `read`, for every layout. Assumes nothing.
-use mathlib.Core.Path.{_≡_, refl, sym, ap, ap₂, _∙_, subst}
+use mathlib.Core.Path.{_≡_, refl, sym, ap, _∙_}
 use mathlib.Core.Logic.{_⊎_, inl, inr}
 use Prim.Native.Nat.{ℕ, suc, zero, _+_, _-_, _≤_, _<_}
 use native.Mathlib.Omega.{arith}
-use mathlib.Core.Bool.{Bool, true, false, not, _&&_, _||_}
-use mathlib.Core.Option.{Option, none, some}
+use mathlib.Core.Bool.{Bool, true, false, _&&_, _||_}
 use mathlib.Core.List.{List, [], _∷_, _++_, append-assoc}
 use lib.ListN.{length, getD, take, drop, length-append}
 use lib.Seq.{take-length, slice, slice-empty, slice-cons, length-slice, drop-drop, take-add, drop-at, take-at, length-take-le, take-take}
-use lib.Dec.{T, leb, ltb, eqb, ltb→lt, nltb→le}
+use lib.Dec.{ltb, eqb, ltb→lt, nltb→le}
 use borrow.Author.Tests.{lt-ltb, le-ltb}
 use Rattle.terms.specs.Numbers.{left-over, no-item, too-many-items}
-use Rattle.terms.specs.Answer.{Res, good, fault, Got, pick, bind, need, enough, same}
-use Rattle.terms.specs.Laws.Answer.{clash, good-inj, test, by-bind, by-need}
-use Rattle.heads.specs.Head.{Cut, head, tlv, octets, before}
+use Rattle.terms.specs.Answer.{Res, good, fault, Got, pick, bind, need, enough}
+use Rattle.terms.specs.Laws.Answer.{good-inj, test, by-bind}
+use Rattle.heads.specs.Head.{Cut, head, tlv, octets}
 use Rattle.heads.specs.Scan.{seen, headAt}
-use Rattle.heads.specs.Laws.Head.{head-back, length-tlv}
+use Rattle.heads.specs.Laws.Head.{head-back}
 use Rattle.heads.specs.declared.Seen.{Seen}
-use Rattle.heads.specs.declared.Seen.the-variants.{Item as At, Refused as Bad}
 use Rattle.heads.specs.declared.Step.{Step}
 use Rattle.heads.specs.declared.Step.the-variants.{Next, Refused}
-use Rattle.contents.specs.Content.{Check, fine, wrong, Leaf, judge, placeOf}
+use Rattle.contents.specs.Content.{Check, fine, wrong, judge}
+use Rattle.contents.specs.Rules.{onlyRule}
 use Rattle.contents.specs.Leaves.{boolean}
 use Rattle.contents.specs.Laws.Leaves.{by-judge}
-use Rattle.layouts.specs.Layout.{Item, leaf, node, list, wrap, Run, end, _▸_, Member, known, one, maybe, flag, choose, tagOf, Value, Values, Part, Ok, OkPart, encode, encodePart}
-use Rattle.layouts.specs.Reading.{next, readLeaf, begins, finish, many, readOption, readFlag, readEither, read, reads, readPart}
-use Rattle.layouts.specs.Scan.{thenSeen, thenStep, judgeAt, thenJudge, leafAt, beginsAt, closeAt, scanMany, scan, scans, scanPart}
+use Rattle.layouts.specs.Layout.{Item, leaf, node, list, wrap, Members, end, _▸_, Member, known, one, maybe, flag, choose, tagOf, Value, Part, encode, encodePart}
+use Rattle.layouts.specs.Reading.{next, readBy, begins, finish, many, readOption, readFlag, readEither, read, reads, readPart}
+use Rattle.layouts.specs.Scan.{thenSeen, thenStep, judgeAt, thenJudge, ruleAt, beginsAt, closeAt, scanMany, scan, scans, scanPart}
 use Rattle.layouts.specs.Laws.Reading.{backward, backwardPart}
 
 -- ---- windows of a slice
@@ -143,17 +142,17 @@ module _ (s : List ℕ) where
       (front-slice (c .2) e s (c .0) (c .1) (o .2) es (sym (o .0)), o′ .0, o .1, o′ .2)
 
   -- a primitive item's parts too
-  leaf-parts : (l : Leaf) (p e : ℕ) → p ≤ e → e ≤ length s → (c : Cut) → readLeaf l (slice p e s) p ≡ good c → Parts p e c
-  unfolding readLeaf
-  leaf-parts l p e pe es x q =
-      by-bind _ _ _ q λ c e₁ e₂. by-judge _ _ _ _ _ e₂ λ ok e₃. rw (← good-inj e₃) (head-parts (l .tag) p e pe es c e₁)
+  leaf-parts : (t : ℕ) (r : List ℕ → Check) (p e : ℕ) → p ≤ e → e ≤ length s → (c : Cut) → readBy t r (slice p e s) p ≡ good c → Parts p e c
+  unfolding readBy
+  leaf-parts t r p e pe es x q =
+      by-bind _ _ _ q λ c e₁ e₂. by-judge _ _ _ _ _ e₂ λ ok e₃. rw (← good-inj e₃) (head-parts t p e pe es c e₁)
 
-  pub leaf-agree : (l : Leaf) (p e : ℕ) → p ≤ e → e ≤ length s → leafAt l s p e ≡ seen (readLeaf l (slice p e s) p)
-  unfolding leafAt readLeaf headAt
-  leaf-agree l p e pe es =
+  pub leaf-agree : (t : ℕ) (r : List ℕ → Check) (p e : ℕ) → p ≤ e → e ≤ length s → ruleAt t r s p e ≡ seen (readBy t r (slice p e s) p)
+  unfolding ruleAt readBy headAt
+  leaf-agree t r p e pe es =
       judge-bind _ _ _ λ c h.
-      let b = head-parts (l .tag) p e pe es c h in
-      rw (← b .0) (seen-judge (l .rule (c .0)) p c)
+      let b = head-parts t p e pe es c h in
+      rw (← b .0) (seen-judge (r (c .0)) p c)
 
   begins-agree : (t p e : ℕ) → p ≤ e → e ≤ length s → beginsAt t s p e ≡ begins t (slice p e s)
   unfolding beginsAt begins
@@ -195,7 +194,7 @@ module _ (s : List ℕ) where
 
     pub scan-read : (i : Item) (p e : ℕ) → p ≤ e → e ≤ length s → scan i s p e ≡ step (read i (slice p e s) p)
     scan-read (leaf l) p e pe es =
-        rw (leaf-agree l p e pe es) (seen-bind (λ x. x .2) _ _ _ λ c h. refl)
+        rw (leaf-agree (l .tag) (l .rule) p e pe es) (seen-bind (λ x. x .2) _ _ _ λ c h. refl)
     scan-read (node t r) p e pe es =
         seen-bind (λ x. x .2) _ _ _ λ c h.
         let b = head-parts t p e pe es c h in
@@ -220,7 +219,7 @@ module _ (s : List ℕ) where
         let o = item-on i (c .2) (next c) d d′ a (rw (← b .0) g) in
         rw (close-agree (a .2) (next c) (o .2) d′, ← o .0) (out-map (λ x. next c) (λ x. x .2) _ _ λ v. refl)))
 
-    pub scans-read : (r : Run) (p e : ℕ) → p ≤ e → e ≤ length s → scans r s p e ≡ whole e (reads r (slice p e s) p)
+    pub scans-read : (r : Members) (p e : ℕ) → p ≤ e → e ≤ length s → scans r s p e ≡ whole e (reads r (slice p e s) p)
     scans-read end p e pe es = close-agree p e pe es
     scans-read (m ▸ r) p e pe es =
         rw (part-read m p e pe es)
@@ -230,21 +229,18 @@ module _ (s : List ℕ) where
 
     part-read : (m : Member) (p e : ℕ) → p ≤ e → e ≤ length s → scanPart m s p e ≡ step (readPart m (slice p e s) p)
     part-read (known l k n) p e pe es =
-        rw (leaf-agree l p e pe es)
-        (seen-bind (λ x. x .2) _ _ _ λ c h.
-        let b = leaf-parts l p e pe es c h in
-        rw (← b .0) (out-need (λ x. x .2) (same (c .0) k) n p _ _ refl))
+        rw (leaf-agree (l .tag) (onlyRule (l .rule) k n) p e pe es) (seen-bind (λ x. x .2) _ _ _ λ c h. refl)
     part-read (one f i) p e pe es = scan-read i p e pe es
     part-read (maybe f i) p e pe es =
         rw (begins-agree (tagOf i) p e pe es, scan-read i p e pe es)
         (out-pick (λ x. x .2) (begins (tagOf i) (slice p e s)) _ _ _ _ (out-map (λ x. x .2) (λ x. x .2) _ _ λ a. refl) refl)
     part-read (flag f) p e pe es =
-        rw (begins-agree (boolean .tag) p e pe es, leaf-agree boolean p e pe es)
+        rw (begins-agree (boolean .tag) p e pe es, leaf-agree (boolean .tag) (boolean .rule) p e pe es)
         (out-pick (λ x. x .2) (begins (boolean .tag) (slice p e s)) _ _ _ _ (seen-bind (λ x. x .2) _ _ _ λ c h. refl) refl)
     part-read (choose f l t g i j) p e pe es =
-        rw (leaf-agree l p e pe es)
+        rw (leaf-agree (l .tag) (l .rule) p e pe es)
         (seen-bind (λ x. x .2) _ _ _ λ c h.
-        let b = leaf-parts l p e pe es c h in
+        let b = leaf-parts (l .tag) (l .rule) p e pe es c h in
         rw (← b .0, scan-read i (next c) e (b .3) es, scan-read j (next c) e (b .3) es, ← b .1)
         (choose-read (λ x q. read i x q) (λ x q. read j x q) (t (c .0)) (c .0) (c .1) (next c)))
 

@@ -1,30 +1,26 @@
 -- A sheet that was written is read back, and what is read was written so: for every layout. Assumes nothing.
-use mathlib.Core.Path.{_≡_, refl, sym, ap, ap₂, _∙_, subst}
-use mathlib.Core.Logic.{_⊎_, inl, inr}
-use Prim.Native.Nat.{ℕ, suc, zero, _+_, _*_, _^_, _≤_, _<_}
+use mathlib.Core.Path.{_≡_, refl, sym, ap, _∙_}
+use mathlib.Core.Logic.{inl, inr}
+use Prim.Native.Nat.{ℕ, suc, zero, _+_, _*_, _≤_, _<_}
 use native.Mathlib.Omega.{arith}
-use mathlib.Core.Bool.{Bool, true, false, not, _&&_, _||_}
-use mathlib.Core.Option.{Option, none, some}
+use mathlib.Core.Bool.{Bool, true, false, _&&_, _||_}
+use mathlib.Core.Option.{none, some}
 use mathlib.Core.List.{List, [], _∷_, _++_, append-assoc}
 use lib.ListN.{length, take, drop, length-append, take-append-drop}
 use lib.Seq.{take-append-seam, drop-append-seam, length-take-le}
-use lib.Dec.{T, leb, ltb, eqb, eqb→eq, eqb-refl, leb→le, ltb→lt}
-use borrow.Author.Tests.{lt-ltb, le-leb, eq-eqb}
-use Rattle.terms.specs.declared.Field.{Field}
-use Rattle.terms.specs.Numbers.{bad-sheet}
-use Rattle.terms.specs.Answer.{Res, good, fault, Got, pick, bind, need, have, enough, same}
-use Rattle.terms.specs.Digits.{digits, leading}
-use Rattle.terms.specs.Laws.Answer.{clash, good-inj, test, and-l, and-r, is-true, pick-yes, pick-no, by-bind, by-need, by-have, by-pair, same-eq, same-refl}
+use lib.Dec.{T, leb, ltb, eqb, eqb→eq, leb→le, ltb→lt}
+use borrow.Author.Tests.{le-leb}
+use Rattle.terms.specs.Answer.{Res, good, Got, pick, bind, need, have, enough, same}
+use Rattle.terms.specs.Laws.Answer.{good-inj, test, and-l, and-r, pick-yes, pick-no, by-bind, by-need, by-have, same-eq}
 use Rattle.terms.specs.Laws.Digits.{leading-there, leading-back, length-digits}
-use Rattle.heads.specs.Head.{Cut, tlv, octets, before, unspelled}
+use Rattle.heads.specs.Head.{Cut, tlv, unspelled}
 use Rattle.heads.specs.Laws.Head.{length-tlv, octets-some}
-use Rattle.contents.specs.Content.{Check, fine, wrong, Leaf, judge, passes}
-use Rattle.contents.specs.Leaves.{boolean}
-use Rattle.contents.specs.Laws.Leaves.{by-judge, passed}
-use Rattle.layouts.specs.Layout.{Item, leaf, node, list, wrap, Run, end, _▸_, Member, known, one, maybe, flag, choose, tagOf, Value, Values, Part, All, InOption, InEither, Ok, Oks, OkPart, each, option, either, critical, encode, encodes, encodePart}
+use Rattle.contents.specs.Content.{fine, Leaf, judge}
+use Rattle.contents.specs.Laws.Leaves.{by-judge}
+use Rattle.layouts.specs.Layout.{Item, leaf, node, list, wrap, Members, end, _▸_, Member, known, one, maybe, flag, choose, All, InOption, InEither, Ok, Oks, OkPart, each, option, either, critical, encode, encodes, encodePart}
 use Rattle.layouts.specs.Reading.{next, readEither}
 use Rattle.layouts.specs.Sheet.{count-bytes, count, section, bit, sheetOption, sheetList, sheet, sheets, sheetPart, readCount, readSection, fillLeaf, times, unbit, fillFlag, fillOption, fillList, fill, fills, fillPart}
-use Rattle.layouts.specs.Laws.Reading.{apart, tells, spare, clear, clears, clearPart, Written, Backward, glue, either-back}
+use Rattle.layouts.specs.Laws.Reading.{tells, spare, clear, clears, clearPart, Written, Backward, glue, either-back}
 
 -- ---- counts and sections
 
@@ -204,7 +200,7 @@ mutual
       (ltb→lt n 65536 (and-l (ltb n 65536) (clear i) k)) vs ok w p h
   filled (wrap t i) k v ok w p h = filled i k v ok w p h
 
-  pub filleds : (r : Run) → T (clears r) → Filled (λ w p. fills r w p) (λ v. sheets r v) (λ v. Oks r v)
+  pub filleds : (r : Members) → T (clears r) → Filled (λ w p. fills r w p) (λ v. sheets r v) (λ v. Oks r v)
   filleds end k v ok w p h = ap (λ (m : ℕ). good (v, w, m)) (omega arith)
   filleds (m ▸ r) k v ok w p h =
       let x : List ℕ = sheetPart m (v .0) in
@@ -241,7 +237,7 @@ mutual
   unfilled (list t e n f i) w p x q = list-unfilled (λ x q. fill i x q) (λ v. sheet i v) (λ v. Ok i v) (λ y p z g. unfilled i y p z g) e n w p x q
   unfilled (wrap t i) w p x q = unfilled i w p x q
 
-  pub unfilleds : (r : Run) → Backward (λ w p. fills r w p) (λ v. sheets r v) (λ v. Oks r v)
+  pub unfilleds : (r : Members) → Backward (λ w p. fills r w p) (λ v. sheets r v) (λ v. Oks r v)
   unfilleds end w p x q = rw (← good-inj q) (refl, tt, omega arith)
   unfilleds (m ▸ r) w p x q =
       by-bind _ _ _ q λ a e₁ e₂. by-bind _ _ _ e₂ λ b e₃ e₄.
@@ -306,7 +302,7 @@ extra (maybe f i) = 4
 extra (flag f) = 5
 extra (choose f l g h i j) = 0
 
-spare-extra : (m : Member) (r : Run) → spare (m ▸ r) ≡ extra m + spare r
+spare-extra : (m : Member) (r : Members) → spare (m ▸ r) ≡ extra m + spare r
 unfolding spare
 spare-extra (known l c n) r = omega arith
 spare-extra (one f i) r = omega arith
@@ -330,7 +326,7 @@ mutual
       omega (arith, length-list (λ v. sheet i v) vs)
   short (wrap t i) k v h = let u = tlv-some t (encode i v) h in omega (arith, short i k v (omega arith))
 
-  pub shorts : (r : Run) → T (clears r) → Short (spare r) (λ v. sheets r v) (λ v. encodes r v)
+  pub shorts : (r : Members) → T (clears r) → Short (spare r) (λ v. sheets r v) (λ v. encodes r v)
   shorts end k v h = omega arith
   shorts (m ▸ r) k v h =
       let k′ = and-r (tells m r) (clearPart m && clears r) k in

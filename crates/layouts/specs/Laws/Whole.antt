@@ -1,25 +1,23 @@
 -- Whole records and sheets: what is accepted, both round trips, and what a destination holds. Assumes nothing.
 use mathlib.Core.Path.{_≡_, refl, sym, ap, _∙_}
-use Prim.Native.Nat.{ℕ, suc, zero, _+_, _*_, _≤_, _<_}
+use Prim.Native.Nat.{ℕ, _+_, _*_, _≤_, _<_}
 use native.Mathlib.Omega.{arith}
-use mathlib.Core.Bool.{Bool, true, false, not, _&&_}
-use mathlib.Core.List.{List, [], _∷_, _++_, append-assoc, append-nil}
+use mathlib.Core.List.{List, [], _∷_, _++_, append-nil}
 use lib.ListN.{length, take, drop, length-append}
-use lib.Seq.{length-front, drop-at, take-at}
+use lib.Seq.{drop-at, take-at}
 use lib.Dec.{T, leb, leb→le, le→leb}
-use Rattle.terms.specs.Numbers.{too-large, no-room}
-use Rattle.terms.specs.Answer.{Res, good, fault, Got, bind, need}
-use Rattle.terms.specs.Laws.Answer.{clash, good-inj, and-l, and-r, by-bind, by-need, bind-eq, need-eq}
-use Rattle.heads.specs.Head.{Cut, tlv, octets, before, unspelled}
+use Rattle.terms.specs.Answer.{Res, good, fault, Got, bind}
+use Rattle.terms.specs.Laws.Answer.{clash, good-inj, and-r, by-bind, by-need, bind-eq, need-eq}
+use Rattle.heads.specs.Head.{before, unspelled}
 use Rattle.heads.specs.Laws.Head.{length-tlv, head-back, outermost-tlv, outermost-back}
-use Rattle.layouts.specs.Layout.{Run, node, Values, Ok, Oks, encode, encodes}
-use Rattle.layouts.specs.Reading.{next, reads, finish}
-use Rattle.layouts.specs.Sheet.{sheet, sheets, fills}
+use Rattle.layouts.specs.Layout.{Members, node, Values, Oks, encode, encodes}
+use Rattle.layouts.specs.Reading.{finish}
+use Rattle.layouts.specs.Sheet.{sheet, sheets}
 use Rattle.layouts.specs.Whole.{sequence, recordOf, recordAt, accept, finishSheet, acceptSheet, fit, fillSheet, writeRecord, stored}
 use Rattle.layouts.specs.Laws.Reading.{clear, clears, spare, forwards, backwards, finish-back}
 use Rattle.layouts.specs.Laws.Sheet.{uncounted, filleds, unfilleds, short}
 
-module _ (most : ℕ) (r : Run) where
+module _ (most : ℕ) (r : Members) where
   -- ---- a record at the front of a window
 
   pub recordAt-back : (w : List ℕ) (b : ℕ) (x : Got (Values r)) → recordAt most r w b ≡ good x

@@ -1,34 +1,32 @@
 -- What holds of seals and signature records beyond every layout: their layouts are clear, a signature's sheet begins with its seal's,
 -- and equal signed bytes are those of equal fields. Assumes nothing.
 use mathlib.Core.Path.{_≡_, refl, sym, ap, _∙_}
-use Prim.Native.Nat.{ℕ, _+_, _≤_, _<_}
+use Prim.Native.Nat.{ℕ, _≤_, _<_}
 use native.Mathlib.Omega.{arith}
-use mathlib.Core.Bool.{Bool, true, false, _&&_}
-use mathlib.Core.Option.{Option, none, some}
-use mathlib.Core.List.{List, [], _∷_, _++_, append-assoc}
+use mathlib.Core.List.{List, _++_, append-assoc}
 use lib.ListN.{length, length-append}
 use lib.Dec.{T, leb}
 use Rattle.terms.specs.declared.Field.{Field}
 use Rattle.terms.specs.declared.Field.the-variants.{SignedPart, SealInformation}
 use Rattle.terms.specs.Names.{code, sameName}
 use Rattle.terms.specs.Numbers.{largest-record}
-use Rattle.terms.specs.Answer.{Res, good, pick, same, enough}
+use Rattle.terms.specs.Answer.{good, pick, enough}
 use Rattle.terms.specs.Laws.Answer.{and-l, and-r}
-use Rattle.terms.specs.Digits.{digits, numberFrom}
-use Rattle.heads.specs.Head.{tlv, before, unspelled}
+use Rattle.terms.specs.Digits.{numberFrom}
+use Rattle.heads.specs.Head.{unspelled}
 use Rattle.heads.specs.Laws.Head.{length-tlv}
 use Rattle.contents.specs.Content.{ask, passes}
 use Rattle.contents.specs.Integer.{sign, shortest, wellFormed, value, turned}
 use Rattle.contents.specs.Text.{within, starts, follows, textFrom}
 use Rattle.contents.specs.Rules.{integerRule, stringRule}
-use Rattle.layouts.specs.Layout.{Item, node, Run, end, _▸_, Member, one, Value, Values, Part, Ok, Oks, encode, encodes, encodePart}
-use Rattle.layouts.specs.Sheet.{sheet, sheets, sheetPart}
-use Rattle.layouts.specs.Whole.{sequence, recordOf, accept}
-use Rattle.layouts.specs.Fields.{Entry, itemFields, runFields, fields, isField, first, bytesIn}
+use Rattle.layouts.specs.Layout.{node, Members, _▸_, one, Values, encode, encodes}
+use Rattle.layouts.specs.Sheet.{sheet, sheets}
+use Rattle.layouts.specs.Whole.{sequence, recordOf}
+use Rattle.layouts.specs.Fields.{itemFields, fields, isField, first, bytesIn}
 use Rattle.layouts.specs.Laws.Reading.{clear, clears, apart, tells, spare, injective}
 use Rattle.layouts.specs.Laws.Whole.{accept-back}
 use Rattle.records.specs.Record.{sealInformation, seal, signedPart, signature}
-use Rattle.records.specs.Handing.{readRecord}
+use Rattle.records.specs.Handing.{readRecord, signedBytes, informationOf, signedPartOf, sealOf}
 
 -- ---- the layouts are clear
 
@@ -43,17 +41,6 @@ signature-clear = tt
 pub record-spelled : largest-record < unspelled
 record-spelled = omega arith
 
--- ---- parts of a value that a law names
-
-abbrev pub informationOf : Values seal → Values sealInformation
-informationOf v = v .0
-
-abbrev pub signedPartOf : Values signature → Values signedPart
-signedPartOf v = v .0
-
-abbrev pub sealOf : Values signature → Values seal
-sealOf v = signedPartOf v .1 .0
-
 -- ---- "a signature's sheet begins with its seal's"
 
 pub sheet-begins : (v : Values signature) → (rest : List ℕ) × (sheets signature v ≡ sheets seal (sealOf v) ++ rest)
@@ -61,10 +48,6 @@ unfolding sheet
 sheet-begins v = (_, append-assoc (sheets seal (sealOf v)) _ _)
 
 -- ---- signed bytes
-
--- "Signed bytes are the signed part, or the seal information, with its own tag and length."
-unfoldable pub signedBytes : Field → (r : Run) → Values r → List ℕ
-signedBytes f r v = bytesIn (first (isField f 0) (fields r v))
 
 signed-signature : (v : Values signature) → signedBytes SignedPart signature v ≡ recordOf signedPart (signedPartOf v)
 unfolding signedBytes bytesIn first isField sameName code fields itemFields pick
@@ -75,8 +58,8 @@ unfolding signedBytes bytesIn first isField sameName code fields itemFields pick
 signed-seal v = refl
 
 -- a record whose first member is a SEQUENCE: two accepted records with equal bytes there have equal values there
-module _ (f : Field) (q rest : Run) (k : T (clear (node sequence (one f (node sequence q) ▸ rest)))) where
-  abbrev whole : Run
+module _ (f : Field) (q rest : Members) (k : T (clear (node sequence (one f (node sequence q) ▸ rest)))) where
+  abbrev whole : Members
   whole = one f (node sequence q) ▸ rest
 
   inner-clear : T (clear (node sequence q))

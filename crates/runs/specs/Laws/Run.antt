@@ -1,28 +1,26 @@
 -- A run of records reads back exactly its list, and every accepted run is such a list. Assumes nothing.
-use mathlib.Core.Path.{_≡_, refl, sym, ap, ap₂, _∙_, subst}
-use Prim.Native.Nat.{ℕ, suc, zero, _+_, _-_, _≤_, _<_}
+use mathlib.Core.Path.{_≡_, refl, sym, ap, _∙_, subst}
+use Prim.Native.Nat.{ℕ, suc, zero, _+_, _≤_}
 use native.Mathlib.Omega.{arith}
-use mathlib.Core.Bool.{Bool, true, false}
-use mathlib.Core.List.{List, [], _∷_, _++_, append-assoc, append-nil}
+use mathlib.Core.List.{List, [], _∷_, _++_, append-assoc}
 use lib.ListN.{length, drop, length-append}
 use lib.Seq.{drop-at}
 use lib.Dec.{T}
 use Rattle.terms.specs.Numbers.{largest-record}
 use Rattle.terms.specs.Answer.{Res, good, fault, Got}
-use Rattle.terms.specs.Laws.Answer.{clash, good-inj}
-use Rattle.heads.specs.Head.{tlv, octets, before, unspelled}
+use Rattle.heads.specs.Head.{tlv, octets}
 use Rattle.heads.specs.Laws.Head.{length-tlv}
-use Rattle.layouts.specs.Layout.{Run, Values, Oks, All, each, encodes}
-use Rattle.layouts.specs.Whole.{sequence, recordOf, recordAt}
+use Rattle.layouts.specs.Layout.{Members, Values, All, each, encodes}
+use Rattle.layouts.specs.Whole.{sequence, recordOf, Allowed, recordAt}
 use Rattle.layouts.specs.Laws.Reading.{clears}
 use Rattle.layouts.specs.Laws.Whole.{recordAt-back, recordAt-there}
-use Rattle.runs.specs.Run.{runOf, Ran, whole, stopped, andThen, onward, runFrom, readRun, Reader, Here, taken, ended, faulty, hereOf, hereIn, hereAt, oneMore, afterHere, stepAfter}
+use Rattle.runs.specs.Run.{runOf, Ran, whole, stopped, andThen, onward, runFrom, readRun, taken, ended, faulty, hereOf, hereIn, hereAt}
 
 -- a value whose record is accepted
-abbrev pub Accepted : (r : Run) → Values r → Type 0
-Accepted r v = Oks r v × (length (recordOf r v) ≤ largest-record)
+abbrev Accepted : (r : Members) → Values r → Type 0
+Accepted r v = Allowed largest-record r v
 
-module _ (r : Run) where
+module _ (r : Members) where
   -- a record has a byte
   record-some : (v : Values r) → 1 ≤ length (recordOf r v)
   record-some v = omega (arith, length-tlv sequence (encodes r v))
@@ -90,6 +88,54 @@ module _ (r : Run) where
   pub run-back : (w : List ℕ) (vs : List (Values r)) → readRun r w ≡ whole vs → (w ≡ runOf r vs) × All (Accepted r) vs
   unfolding readRun
   run-back w vs e = runFrom-back (length w) w 0 vs (omega arith) e
+
+  -- a run that is refused: the records before the fault are read, and the reader stands at the fault
+  abbrev Stops : List ℕ → ℕ → List (Values r) → ℕ → ℕ → Type 0
+  Stops w b vs n p = (rest : List ℕ) × (w ≡ runOf r vs ++ rest) × All (Accepted r) vs × (hereIn r rest (b + length (runOf r vs)) ≡ faulty n p)
+
+  stopped-cons : (a : Values r) (x : Ran (Values r)) (vs : List (Values r)) (n p : ℕ) → andThen a x ≡ stopped vs n p → (us : List (Values r)) × (x ≡ stopped us n p) × (a ∷ us ≡ vs)
+  unfolding andThen
+  stopped-cons a (whole us) vs n p e = let z : _≡_ {A = ℕ} 0 1 = cc in let y : ⊥ = omega arith in absurd y
+  stopped-cons a (stopped us m q) vs n p e =
+      let i : m ≡ n = cc in let j : q ≡ p = cc in let k : a ∷ us ≡ vs = cc in (us, rw (i, j) refl, k)
+
+  runFrom-stops : (k : ℕ) (w : List ℕ) (b : ℕ) (vs : List (Values r)) (n p : ℕ) → length w ≤ k → runFrom k r w b ≡ stopped vs n p → Stops w b vs n p
+  unfolding runFrom each hereIn onward
+  runFrom-stops zero w b vs n p h e = let z : _≡_ {A = ℕ} 0 1 = cc in let y : ⊥ = omega arith in absurd y
+  runFrom-stops (suc k) [] b vs n p h e = let z : _≡_ {A = ℕ} 0 1 = cc in let y : ⊥ = omega arith in absurd y
+  runFrom-stops (suc k) (x ∷ w) b vs n p h e =
+      go (recordAt largest-record r (x ∷ w) b) refl e λ a us l g. runFrom-stops k (a .1) (a .2) us n p l g
+    where
+      go : (y : Res (Got (Values r))) → recordAt largest-record r (x ∷ w) b ≡ y → (onward y λ a. andThen (a .0) (runFrom k r (a .1) (a .2))) ≡ stopped vs n p
+          → ((a : Got (Values r)) (us : List (Values r)) → length (a .1) ≤ k → runFrom k r (a .1) (a .2) ≡ stopped us n p → Stops (a .1) (a .2) us n p) → Stops (x ∷ w) b vs n p
+      go (good a) f g ih =
+          let u = recordAt-back largest-record r (x ∷ w) b a f in
+          let t = stopped-cons (a .0) (runFrom k r (a .1) (a .2)) vs n p g in
+          let l : suc (length w) ≡ length (recordOf r (a .0)) + length (a .1) = ap length (u .0) ∙ length-append (recordOf r (a .0)) (a .1) in
+          let s = record-some (a .0) in
+          let i = ih a (t .0) (omega arith) (t .1) in
+          let m : a .2 + length (runOf r (t .0)) ≡ b + length (runOf r (a .0 ∷ t .0)) = omega (arith, u .2, length-append (recordOf r (a .0)) (runOf r (t .0))) in
+          rw (← t .2) (
+            i .0,
+            u .0 ∙ ap (λ (y : List ℕ). recordOf r (a .0) ++ y) (i .1) ∙ sym (append-assoc (recordOf r (a .0)) (runOf r (t .0)) (i .0)),
+            ((u .1, u .3), i .2),
+            subst (λ (q : ℕ). hereIn r (i .0) q ≡ faulty n p) m (i .3),
+          )
+      go (fault m q) f g ih =
+          let v : [] ≡ vs = cc in
+          let i : m ≡ n = cc in
+          let j : q ≡ p = cc in
+          let z : b + 0 ≡ b = omega arith in
+          rw (← v) (x ∷ w, refl, tt, rw (z, f, i, j) refl)
+
+  pub run-stops : (w : List ℕ) (vs : List (Values r)) (n p : ℕ) → readRun r w ≡ stopped vs n p
+      → (rest : List ℕ) × (w ≡ runOf r vs ++ rest) × All (Accepted r) vs × (hereAt r w (length (runOf r vs)) ≡ faulty n p)
+  unfolding readRun hereAt
+  run-stops w vs n p e =
+      let s = runFrom-stops (length w) w 0 vs n p (omega arith) e in
+      let d : drop (length (runOf r vs)) w ≡ s .0 = ap (drop (length (runOf r vs))) (s .1) ∙ drop-at (runOf r vs) (s .0) (length (runOf r vs)) refl in
+      let z : 0 + length (runOf r vs) ≡ length (runOf r vs) = omega arith in
+      (s .0, s .1, s .2, rw d (rw z at (s .3)))
 
   -- counting down never cuts a run short
   pub enough : (k : ℕ) (w : List ℕ) (b : ℕ) → length w ≤ k → runFrom (suc k) r w b ≡ runFrom k r w b

@@ -1,13 +1,13 @@
 -- How an answer was come by: backwards, what a good answer was made of; forwards, what it comes to. Assumes nothing.
-use mathlib.Core.Path.{_≡_, refl, sym, ap, ap₂, _∙_}
+use mathlib.Core.Path.{_≡_, refl, ap, ap₂}
 use Prim.Native.Nat.{ℕ}
 use native.Mathlib.Omega.{arith}
 use mathlib.Core.Bool.{Bool, true, false, not, _&&_}
 use mathlib.Core.Option.{Option, none, some}
-use mathlib.Core.List.{List, [], _∷_, _++_}
+use mathlib.Core.List.{List, [], _∷_}
 use lib.Dec.{T, eqb, eqb→eq}
 use borrow.Author.Tests.{eq-eqb}
-use Rattle.terms.specs.Answer.{Res, good, fault, pick, bind, need, have, every, same}
+use Rattle.terms.specs.Answer.{Res, good, fault, pick, bind, need, have, same}
 
 -- a refusal is no answer
 pub clash {ℓ} : {A : Type 0} {X : Type ℓ} {n p : ℕ} {a : A} → fault n p ≡ good a → X

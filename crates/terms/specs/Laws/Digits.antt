@@ -2,15 +2,15 @@
 use mathlib.Core.Path.{_≡_, refl, sym, ap, ap₂, _∙_, subst}
 use Prim.Native.Nat.{ℕ, suc, zero, _+_, _*_, _/_, _%_, _^_, _≤_, _<_}
 use native.Mathlib.Omega.{arith}
-use native.Mathlib.Nat.{pow-zero, pow-succ', mul-pos, mul-assoc, mul-one, add-assoc, add-mul, mod-eq-of-lt, mod-lt, mod-one}
-use mathlib.Core.Bool.{Bool, true, false, _&&_}
-use mathlib.Core.Option.{Option, none, some}
+use native.Mathlib.Nat.{pow-zero, pow-succ', mul-pos, mul-assoc, add-assoc, add-mul, mod-eq-of-lt, mod-lt, mod-one}
+use mathlib.Core.Bool.{_&&_}
+use mathlib.Core.Option.{none, some}
 use mathlib.Core.List.{List, [], _∷_, _++_}
 use lib.ListN.{length, take, drop, length-append, take-append-drop}
 use lib.Seq.{take-at, drop-at, length-take-le}
 use lib.Arith.{mod-mul, digits-lt, digits-div, digits-mod}
 use lib.Dec.{T, leb, ltb, leb→le, ltb→lt, le→leb, lt→ltb}
-use Rattle.terms.specs.Answer.{pick, every}
+use Rattle.terms.specs.Answer.{every}
 use Rattle.terms.specs.Digits.{digits, numberFrom, number, isByte, leading}
 use Rattle.terms.specs.Laws.Answer.{test, and-l, and-r, both, pick-yes, pick-no}
 

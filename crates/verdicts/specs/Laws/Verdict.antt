@@ -1,30 +1,21 @@
 -- The answer is the first failing row of any table, and the notice goes with it as document 01 says. Assumes nothing.
-use mathlib.Core.Path.{_≡_, refl, sym, ap, _∙_, subst}
-use mathlib.Core.Logic.{_⊎_, inl, inr}
+use mathlib.Core.Path.{_≡_, refl, sym, ap, subst}
+use mathlib.Core.Logic.{inl, inr}
 use Prim.Native.Nat.{ℕ}
-use mathlib.Core.Bool.{Bool, true, false, not, _&&_, _||_}
-use mathlib.Core.List.{List, [], _∷_, _++_}
-use lib.Dec.{T, leb, eqb}
-use Rattle.terms.specs.Answer.{Res, good, fault, pick, every}
+use mathlib.Core.Bool.{Bool, true, false, not}
+use mathlib.Core.List.{List, [], _∷_}
+use lib.Dec.{T}
+use Rattle.terms.specs.Numbers.{unreal-time}
+use Rattle.terms.specs.Answer.{good, fault, every}
 use Rattle.terms.specs.Laws.Answer.{test, and-l, and-r, both, pick-yes, pick-no}
-use Rattle.layouts.specs.Layout.{Run, Values}
+use Rattle.layouts.specs.Layout.{Members, Values}
 use Rattle.layouts.specs.Fields.{fields}
 use Rattle.verdicts.specs.Findings.{allReal}
-use Rattle.verdicts.specs.Verdict.{Step, step, firstFailing, Facts, signatureSteps, signatureValid, sealSteps, sealValid, makerOut, judged, weigh}
+use Rattle.verdicts.specs.Verdict.{Step, firstFailing, First, takesNotice, Facts, signatureSteps, signatureValid, sealSteps, sealValid, judged, weigh}
 use Rattle.verdicts.specs.declared.Findings.{Findings}
-use Rattle.verdicts.specs.declared.Verdict.{Verdict}
-use Rattle.verdicts.specs.declared.Verdict.the-variants.{Judged, Refused}
+use Rattle.verdicts.specs.declared.Verdict.the-variants.{Refused}
 
 -- ---- the first failing row
-
--- none of the rows fails
-abbrev pub Pass : {A : Type 0} → List (Step A) → A → Type 0
-Pass ss x = T (every (λ s. not (s .fails x)) ss)
-
--- either no row fails and the answer is the last row, or the answer fails and no row before it does
-abbrev pub First : {A : Type 0} → List (Step A) → Step A → A → Step A → Type 0
-First {A} ss none x s =
-    (Pass ss x × (s ≡ none)) ⊎ ((earlier : List (Step A)) × (later : List (Step A)) × (ss ≡ earlier ++ s ∷ later) × Pass earlier x × T (s .fails x))
 
 pub first-failing : {A : Type 0} (ss : List (Step A)) (none : Step A) (x : A) → First ss none x (firstFailing ss none x)
 unfolding firstFailing every
@@ -51,9 +42,6 @@ first-holds P (s ∷ ss) none x h k =
 
 -- ---- the notice: "goes with 0 and 26 to 34"
 
-unfoldable pub takesNotice : ℕ → Bool
-takesNotice n = eqb n 0 || (leb 26 n && leb n 34)
-
 same-bool : Bool → Bool → Bool
 same-bool true b = b
 same-bool false b = not b
@@ -77,18 +65,18 @@ seal-notice x = same-bool-eq _ _ (first-holds (λ s. same-bool (s .carries) fals
 
 -- ---- what the verdict is, case by case
 
-pub weigh-refused : (ss : List (Step Facts)) (none : Step Facts) (r : Run) (n p : ℕ) (f : Findings) (a b : List ℕ) → weigh ss none r (fault n p) f a b ≡ Refused n p
+pub weigh-refused : (ss : List (Step Facts)) (none : Step Facts) (r : Members) (n p : ℕ) (f : Findings) (a b : List ℕ) → weigh ss none r (fault n p) f a b ≡ Refused n p
 unfolding weigh
 weigh-refused ss none r n p f a b = refl
 
-abbrev pub factsOf : (r : Run) → Values r → Findings → List ℕ → List ℕ → Facts
-factsOf r v f a b = record { entries = fields r v; found = f; original = a; signers = b }
+abbrev pub factsOf : (r : Members) → Values r → Findings → List ℕ → List ℕ → Facts
+factsOf r v f a b = record { entries = fields r v; found = f; original = a; signer = b }
 
-pub weigh-judged : (ss : List (Step Facts)) (none : Step Facts) (r : Run) (v : Values r) (f : Findings) (a b : List ℕ) → T (allReal f)
+pub weigh-judged : (ss : List (Step Facts)) (none : Step Facts) (r : Members) (v : Values r) (f : Findings) (a b : List ℕ) → T (allReal f)
     → weigh ss none r (good v) f a b ≡ judged (firstFailing ss none (factsOf r v f a b)) (factsOf r v f a b)
 unfolding weigh
 weigh-judged ss none r v f a b h = pick-yes (allReal f) _ _ h
 
-pub weigh-unreal : (ss : List (Step Facts)) (none : Step Facts) (r : Run) (v : Values r) (f : Findings) (a b : List ℕ) → T (not (allReal f)) → weigh ss none r (good v) f a b ≡ Refused 18 0
+pub weigh-unreal : (ss : List (Step Facts)) (none : Step Facts) (r : Members) (v : Values r) (f : Findings) (a b : List ℕ) → T (not (allReal f)) → weigh ss none r (good v) f a b ≡ Refused unreal-time 0
 unfolding weigh
 weigh-unreal ss none r v f a b h = pick-no (allReal f) _ _ h
