@@ -37,12 +37,6 @@ abbrev pub Tells : ℕ → Tagged → Type 0
 Tells b (Known t) = b ≡ tagByte t
 Tells b Other = (t : Tag) → b ≡ tagByte t → ⊥
 
--- ---- windows
-
--- no window goes past the slice
-unfoldable pub clamp : ℕ → ℕ → ℕ
-clamp e n = pick (ltb e n) e n
-
 -- ---- lengths and heads
 
 unfoldable pub formOf : ℕ → Form

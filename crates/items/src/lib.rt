@@ -2,7 +2,7 @@
 ghost use mathlib.Core.Path.{_≡_};
 ghost use Prim.Native.Nat.{_+_, _*_, _≤_, _<_};
 ghost use lib.ListN.{length, getD};
-ghost use Rattle.items.specs.Scan.{tagByte, Tells, clamp, lengthAt, openingAt};
+ghost use Rattle.items.specs.Scan.{tagByte, Tells, lengthAt, openingAt};
 ghost use Rattle.heads.specs.Scan.{headAt, outermostAt};
 ghost use Rattle.items.specs.Laws.Scan.{refusalOf, roomAt};
 use heads::Seen;
@@ -95,13 +95,6 @@ fn wide(b: u8) -> usize
     ensures { λ r. ⌜ (r ≡ b) × (r < 256) ⌝ }
 {
     b as usize
-}
-
-// The nearer of two ends.
-fn nearer(end: usize, n: usize) -> usize
-    ensures { λ r. ⌜ r ≡ clamp end n ⌝ }
-{
-    if end < n { end } else { n }
 }
 
 // A length in one byte after 81, from 128 on.
@@ -220,7 +213,7 @@ fn room(at: usize, header: usize, content: usize, end: usize) -> Seen
 pub fn head(s: &[u8], tag: Tag, at: usize, end: usize) -> Seen
     ensures { λ r. ⌜ r ≡ headAt (tagByte tag) (now (s .entry)) at end ⌝ }
 {
-    let stop = nearer(end, s.len());
+    let stop = windows::nearer(end, s.len());
     let o = open(s, tag, at, stop);
     let Opening::Opened(header, content) = o else {
         return unopened(o);
@@ -232,7 +225,7 @@ pub fn head(s: &[u8], tag: Tag, at: usize, end: usize) -> Seen
 pub fn outermost(s: &[u8], most: usize, tag: Tag, at: usize, end: usize) -> Seen
     ensures { λ r. ⌜ r ≡ outermostAt most (tagByte tag) (now (s .entry)) at end ⌝ }
 {
-    let stop = nearer(end, s.len());
+    let stop = windows::nearer(end, s.len());
     let o = open(s, tag, at, stop);
     let Opening::Opened(header, content) = o else {
         return unopened(o);

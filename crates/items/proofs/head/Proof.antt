@@ -1,5 +1,6 @@
 -- `items::head`: what was opened is cut off the window, what was not is refused.
-use Rattle.items.specs.Laws.Scan.{clamp-in, opened-within, head-refused, head-opened}
+use Rattle.items.specs.Laws.Scan.{opened-within, head-refused, head-opened}
+use Rattle.windows.specs.Laws.Window.{clamp-in}
 use borrow.Author.Needs.{needs}
 use Rattle.items.proofs.head.Statement.{statement}
 use Rattle.items.proofs.head.Tie as tie

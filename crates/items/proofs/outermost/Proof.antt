@@ -1,5 +1,6 @@
 -- `items::outermost`: as `head`, with 17 between.
-use Rattle.items.specs.Laws.Scan.{clamp-in, opened-within, opened-fits, outermost-refused, outermost-large, outermost-opened}
+use Rattle.items.specs.Laws.Scan.{opened-within, opened-fits, outermost-refused, outermost-large, outermost-opened}
+use Rattle.windows.specs.Laws.Window.{clamp-in}
 use borrow.Author.Needs.{needs}
 use Rattle.items.proofs.outermost.Statement.{statement}
 use Rattle.items.proofs.outermost.Tie as tie

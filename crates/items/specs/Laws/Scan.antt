@@ -1,12 +1,12 @@
 -- Heads by positions: what each step of reading one comes to, with premises as code has them. Assumes nothing.
 use mathlib.Core.Path.{_≡_, refl, sym, ap, ap₂, _∙_, subst}
-use Prim.Native.Nat.{ℕ, suc, _+_, _-_, _*_, _/_, _%_, _^_, _≤_, _<_}
+use Prim.Native.Nat.{ℕ, _+_, _-_, _*_, _/_, _%_, _^_, _≤_, _<_}
 use native.Mathlib.Omega.{arith}
 use mathlib.Core.Bool.{Bool, true, false}
 use mathlib.Core.Option.{Option, none, some}
 use mathlib.Core.List.{List, [], _∷_}
-use lib.ListN.{length, getD, take, drop, length-append, length-take, drop-of-length-le}
-use lib.Seq.{slice, slice-cons, length-slice, length-take-le, take-all, take-length}
+use lib.ListN.{length, getD, length-append}
+use lib.Seq.{slice, length-slice, length-take-le}
 use lib.Dec.{leb, ltb, eqb, ltb→lt, leb→le, nltb→le, nleb→lt, lt→ltb, lit≤}
 use mir.Syntax.{w64}
 use mir.Val.{Fits}
@@ -20,7 +20,9 @@ use Rattle.heads.specs.Head as Head
 use Rattle.heads.specs.Head.{forms, spell, octets, Size, unspell, size, opening, before, cut, head, outermost}
 use Rattle.heads.specs.Laws.Head.{size-back, octets-below}
 use Rattle.heads.specs.Scan.{seen, headAt, outermostAt}
-use Rattle.items.specs.Scan.{tagByte, Tells, clamp, formOf, spelled, lengthAt, opened, openingAt}
+use Rattle.windows.specs.Window.{clamp}
+use Rattle.windows.specs.Laws.Window.{slice-clamp, clamp-in, byte-at, nothing-at}
+use Rattle.items.specs.Scan.{tagByte, Tells, formOf, spelled, lengthAt, opened, openingAt}
 use Rattle.heads.specs.declared.Seen.{Seen}
 use Rattle.heads.specs.declared.Seen.the-variants.{Item, Refused}
 use Rattle.items.specs.declared.Tag.{Tag}
@@ -59,33 +61,6 @@ found-same b x y r f t h e i j k = subst (Tells b) e h ∙ sym i ∙ k ∙ j
 
 pub found-other : (b x y : ℕ) (r : Tagged) (f t : Tag) → Tells b r → r ≡ Known f → x ≡ tagByte f → y ≡ tagByte t → (x ≡ y → ⊥) → b ≡ tagByte t → ⊥
 found-other b x y r f t h e i j k g = k (i ∙ sym (subst (Tells b) e h) ∙ g ∙ sym j)
-
--- ---- windows
-
-pub clamp-near : (e n : ℕ) → e < n → e ≡ clamp e n
-unfolding clamp
-clamp-near e n h = sym (pick-yes (ltb e n) e n (lt→ltb e n h))
-
-pub clamp-far : (e n : ℕ) → n ≤ e → n ≡ clamp e n
-unfolding clamp
-clamp-far e n h = sym (pick-no (ltb e n) e n (rw (le-ltb e n h) tt))
-
--- past the slice there is nothing
-pub slice-clamp : (p e : ℕ) (s : List ℕ) → slice p (clamp e (length s)) s ≡ slice p e s
-slice-clamp p e s =
-    test (ltb e (length s))
-    (λ h. rw (← clamp-near e (length s) (ltb→lt e (length s) h)))
-    (λ h. let g : length s ≤ e = nltb→le e (length s) h in
-    rw (← clamp-far e (length s) g) (ap (drop p) (take-length s ∙ sym (take-all e s g))))
-
-clamp-most : (e n : ℕ) → clamp e n ≤ n
-clamp-most e n =
-    test (ltb e n)
-    (λ h. let g : e < n = ltb→lt e n h in rw (← clamp-near e n g) (omega arith))
-    (λ h. rw (← clamp-far e n (nltb→le e n h)) (omega arith))
-
-pub clamp-in : (q e n : ℕ) → q ≡ clamp e n → q ≤ n
-clamp-in q e n h = rw h (clamp-most e n)
 
 -- ---- one and two bytes as a number
 
@@ -157,12 +132,6 @@ unfolding formOf
 form-two n h = let g : 128 ≤ n = omega arith in pick-no (ltb n 128) _ _ (rw (le-ltb n 128 g) tt) ∙ pick-no (ltb n 256) _ _ (rw (le-ltb n 256 h) tt)
 
 -- ---- the window after the tag, byte by byte
-
-byte-at : (s : List ℕ) (q e : ℕ) → q < e → e ≤ length s → slice q e s ≡ getD s q 0 ∷ slice (q + 1) e s
-byte-at s q e h k = let f : q + 1 ≡ suc q = omega arith in rw f (slice-cons q e s 0 h k)
-
-nothing-at : (s : List ℕ) (q e : ℕ) → e ≤ q → slice q e s ≡ []
-nothing-at s q e h = drop-of-length-le (take e s) {i = q} (let l = length-take e s in omega arith)
 
 module _ (s : List ℕ) (p e : ℕ) where
   pub length-missing : e - p < 2 → Bad ≡ lengthAt s p e
@@ -344,7 +313,7 @@ module _ (t : ℕ) (s : List ℕ) (p e q : ℕ) (stop : q ≡ clamp e (length s)
   same-window = rw (stop, slice-clamp p e s)
 
   inside : q ≤ length s
-  inside = rw stop (clamp-most e (length s))
+  inside = clamp-in q e (length s) stop
 
   -- the length ends within the window, and is short
   pub opened-within : (x : Opening) (h n : ℕ) → x ≡ openingAt t s p q → x ≡ Opened h n → p + h ≤ q

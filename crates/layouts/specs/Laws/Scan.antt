@@ -43,10 +43,6 @@ front-slice p e s a r h k q =
     sym (take-at a r (length a) refl) ∙ ap (take (length a)) (sym q) ∙ drop-take p (length a) (take e s) (omega arith)
     ∙ ap (drop p) (take-take (p + length a) e s (omega arith))
 
--- a part of a slice, as code takes it
-pub part-slice : (a z : ℕ) (s : List ℕ) → a ≤ z → z ≤ length s → take (z - a) (drop a s) ≡ slice a z s
-part-slice a z s h k = let q : a + (z - a) ≡ z = omega arith in drop-take a (z - a) s (omega arith) ∙ ap (λ (n : ℕ). drop a (take n s)) q
-
 -- what was read at the front of a window leaves the window from there on
 abbrev Onward : List ℕ → ℕ → ℕ → List ℕ → ℕ → Type 0
 Onward s p e r n = (r ≡ slice n e s) × (p ≤ n) × (n ≤ e)

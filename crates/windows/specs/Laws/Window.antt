@@ -1,0 +1,51 @@
+-- A window up to an end past the slice is the window up to the slice's end; windows byte by byte, and as code cuts them. Assumes nothing.
+use mathlib.Core.Path.{_≡_, sym, ap, _∙_}
+use Prim.Native.Nat.{ℕ, suc, _+_, _-_, _≤_, _<_}
+use native.Mathlib.Omega.{arith}
+use mathlib.Core.List.{List, [], _∷_}
+use lib.ListN.{length, getD, take, drop, length-take, drop-of-length-le}
+use lib.Seq.{slice, slice-cons, take-all, take-length, take-add, drop-at, length-take-le}
+use lib.Dec.{ltb, ltb→lt, nltb→le, lt→ltb}
+use borrow.Author.Tests.{le-ltb}
+use Rattle.terms.specs.Laws.Answer.{test, pick-yes, pick-no}
+use Rattle.windows.specs.Window.{clamp}
+
+pub clamp-near : (e n : ℕ) → e < n → e ≡ clamp e n
+unfolding clamp
+clamp-near e n h = sym (pick-yes (ltb e n) e n (lt→ltb e n h))
+
+pub clamp-far : (e n : ℕ) → n ≤ e → n ≡ clamp e n
+unfolding clamp
+clamp-far e n h = sym (pick-no (ltb e n) e n (rw (le-ltb e n h) tt))
+
+-- past the slice there is nothing
+pub slice-clamp : (p e : ℕ) (s : List ℕ) → slice p (clamp e (length s)) s ≡ slice p e s
+slice-clamp p e s =
+    test (ltb e (length s))
+    (λ h. rw (← clamp-near e (length s) (ltb→lt e (length s) h)))
+    (λ h. let g : length s ≤ e = nltb→le e (length s) h in
+    rw (← clamp-far e (length s) g) (ap (drop p) (take-length s ∙ sym (take-all e s g))))
+
+clamp-most : (e n : ℕ) → clamp e n ≤ n
+clamp-most e n =
+    test (ltb e n)
+    (λ h. let g : e < n = ltb→lt e n h in rw (← clamp-near e n g) (omega arith))
+    (λ h. rw (← clamp-far e n (nltb→le e n h)) (omega arith))
+
+pub clamp-in : (q e n : ℕ) → q ≡ clamp e n → q ≤ n
+clamp-in q e n h = rw h (clamp-most e n)
+
+-- ---- byte by byte
+
+pub byte-at : (s : List ℕ) (q e : ℕ) → q < e → e ≤ length s → slice q e s ≡ getD s q 0 ∷ slice (q + 1) e s
+byte-at s q e h k = let f : q + 1 ≡ suc q = omega arith in rw f (slice-cons q e s 0 h k)
+
+pub nothing-at : (s : List ℕ) (q e : ℕ) → e ≤ q → slice q e s ≡ []
+nothing-at s q e h = drop-of-length-le (take e s) {i = q} (let l = length-take e s in omega arith)
+
+-- ---- a part of a slice, as code cuts it
+
+pub part-slice : (a z : ℕ) (s : List ℕ) → a ≤ z → z ≤ length s → take (z - a) (drop a s) ≡ slice a z s
+part-slice a z s h k =
+    let q : a + (z - a) ≡ z = omega arith in
+    sym (ap (drop a) (take-add a (z - a) s) ∙ drop-at (take a s) (take (z - a) (drop a s)) a (length-take-le a s (omega arith))) ∙ ap (λ (n : ℕ). drop a (take n s)) q
