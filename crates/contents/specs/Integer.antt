@@ -83,10 +83,13 @@ any z = true
 abbrev pub is : ℕ → ℤ → Bool
 is n z = leZ (pos n) z && leZ z (pos n)
 
+abbrev pub fromOne : ℤ → ℤ → Bool
+fromOne most z = leZ (pos 1) z && leZ z most
+
 -- "list kind, INTEGER 1 or 2"
 abbrev pub isKind : ℤ → Bool
-isKind z = is 1 z || is 2 z
+isKind z = fromOne (pos 2) z
 
 -- "width and height in mm, INTEGER 1 to 65,535"
 abbrev pub isMillimetres : ℤ → Bool
-isMillimetres z = leZ (pos 1) z && leZ z (pos 65535)
+isMillimetres z = fromOne (pos 65535) z

@@ -1,5 +1,7 @@
 // Windows of a slice: from a position up to an end that may lie past the slice.
 ghost use mathlib.Core.Path.{_≡_};
+ghost use lib.ListN.{take, drop};
+ghost use lib.Seq.{slice};
 ghost use Rattle.windows.specs.Window.{clamp};
 
 // The nearer of two ends.
@@ -7,4 +9,25 @@ pub fn nearer(end: usize, n: usize) -> usize
     ensures { λ r. ⌜ r ≡ clamp end n ⌝ }
 {
     if end < n { end } else { n }
+}
+
+// A slice up to an end.
+fn upto(s: &[u8], z: usize) -> &[u8]
+    ensures { λ r. ⌜ now r ≡ take z (now (s .entry)) ⌝ }
+{
+    if z <= s.len() { &s[..z] } else { s }
+}
+
+// A slice from a start on.
+fn onward(s: &[u8], a: usize) -> &[u8]
+    ensures { λ r. ⌜ now r ≡ drop a (now (s .entry)) ⌝ }
+{
+    if a <= s.len() { &s[a..] } else { &s[..0] }
+}
+
+// What stands from one position to another, as much of it as there is.
+pub fn window(s: &[u8], a: usize, z: usize) -> &[u8]
+    ensures { λ r. ⌜ now r ≡ slice a z (now (s .entry)) ⌝ }
+{
+    onward(upto(s, z), a)
 }

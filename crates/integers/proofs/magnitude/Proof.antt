@@ -1,0 +1,68 @@
+-- `integers::magnitude`: after each turn the digits that are left lead to the same number.
+use Prim.Native.Nat.{_-_}
+use lib.ListN.{length}
+use Rattle.integers.specs.Laws.Number.{Going, starts, turns, small, room-for-one, ends}
+use native.Mathlib.Omega.{arith}
+use borrow.Author.Needs.{needs}
+use Rattle.integers.proofs.magnitude.Statement.{statement}
+use Rattle.integers.proofs.magnitude.Tie as tie
+use Rattle.integers.proofs.magnitude.Reads as reads
+use Rattle.integers.proofs.magnitude.Lts as lts
+use Rattle.integers.proofs.digit.Reads as digit-reads
+
+abbrev Inv-loop : tie.InvT-loop
+Inv-loop c neg m₀ i₀ m i = Going neg c m i
+
+abbrev μ-loop : tie.MeasureT-loop
+μ-loop c neg m₀ i₀ m i = length c - i
+
+shared-slice-read-digit : tie.Need-shared-slice-read-digit Inv-loop μ-loop
+shared-slice-read-digit c = search needs
+
+digit-requires : tie.Need-digit-requires Inv-loop μ-loop
+digit-requires c κs = search needs
+
+loop-holds : tie.Need-loop-holds Inv-loop μ-loop
+loop-holds c = starts (omega arith) (omega arith) (c .digit .ensures .0) (omega arith)
+
+mul-m : tie.Need-mul-m Inv-loop μ-loop
+mul-m c = omega (arith, room-for-one (c .before .loop .inv) (omega arith))
+
+shared-slice-read-digit-2 : tie.Need-shared-slice-read-digit-2 Inv-loop μ-loop
+shared-slice-read-digit-2 c = search needs
+
+digit-requires-2 : tie.Need-digit-requires-2 Inv-loop μ-loop
+digit-requires-2 c κs = search needs
+
+add-m : tie.Need-add-m Inv-loop μ-loop
+add-m c = omega (arith, room-for-one (c .before .before .before .loop .inv) (omega arith))
+
+add-i : tie.Need-add-i Inv-loop μ-loop
+add-i c = search needs
+
+loop-less : tie.Need-loop-less Inv-loop μ-loop
+loop-less c = search needs
+
+loop-again : tie.Need-loop-again Inv-loop μ-loop
+loop-again c = turns (c .before .before .before .loop .inv) (omega arith) (c .digit2 .ensures .0) (omega arith)
+
+returns : tie.Need-returns Inv-loop μ-loop
+returns c = (ends (c .before .loop .inv) (omega arith), small (c .before .loop .inv))
+
+pub magnitude-spec : {M : Type 1} → statement M
+magnitude-spec =
+    tie.close
+    (tie.spec
+    Inv-loop
+    μ-loop
+    shared-slice-read-digit
+    digit-requires
+    loop-holds
+    mul-m
+    shared-slice-read-digit-2
+    digit-requires-2
+    add-m
+    add-i
+    loop-less
+    loop-again
+    returns)

@@ -1,0 +1,18 @@
+-- `integers::read`: the number of the window.
+use Rattle.integers.specs.Laws.Number.{read-window}
+use borrow.Author.Needs.{needs}
+use Rattle.integers.proofs.read.Statement.{statement}
+use Rattle.integers.proofs.read.Tie as tie
+use Rattle.windows.proofs.window.Reads as window-reads
+
+window-requires : tie.Need-window-requires
+window-requires c κs = search needs
+
+number-in-requires : tie.Need-number-in-requires
+number-in-requires c κs = search needs
+
+returns : tie.Need-returns
+returns c = search (needs, read-window)
+
+pub read-spec : {M : Type 1} → statement M
+read-spec = tie.close (tie.spec window-requires number-in-requires returns)

@@ -1,0 +1,280 @@
+-- The loop over a content's digits, and the cases of its number, with premises as code has them. Assumes nothing.
+use mathlib.Core.Path.{_≡_, refl, sym, ap, _∙_, subst}
+use Prim.Native.Nat.{ℕ, zero, suc, _+_, _-_, _*_, _^_, _≤_, _<_}
+use native.Mathlib.Omega.{arith}
+use native.Mathlib.Numerals.{add-one}
+use native.Mathlib.Nat.{mul-le-mul-right, le-trans, mul-assoc, le-mul-of-pos-right, pow-succ'}
+use mathlib.Core.Bool.{Bool, true, false, not, _&&_, and-true}
+use mathlib.Core.List.{List, [], _∷_}
+use lib.ListN.{length, getD, drop, drop-of-length-le}
+use lib.Seq.{slice, drop-cons}
+use lib.Signed.{leZ, ltZ}
+use lib.IntN.{ℤ, pos, negsuc, _-ℤ_}
+use lib.Dec.{T, leb, ltb, eqb}
+use mir.Syntax.{w64}
+use mir.Val.{toZ, ofZ, SFits}
+use mir.Facts.{toZ-pos, toZ-ofZ}
+use borrow.Author.Tests.{lt-ltb, le-ltb, le-leb, lt-leb, not-true, not-false}
+use Rattle.terms.specs.Numbers.{bad-integer, not-allowed}
+use Rattle.terms.specs.Answer.{pick, same}
+use Rattle.terms.specs.Laws.Answer.{test, is-true, is-false, pick-yes, pick-no}
+use Rattle.terms.specs.Digits.{numberFrom, number}
+use Rattle.terms.specs.Laws.Digits.{pow-pos}
+use Rattle.contents.specs.Integer.{sign, shortest, wellFormed, turned, value, fromOne}
+use Rattle.contents.specs.Content.{ask, placeOf}
+use Rattle.contents.specs.Rules.{integerRule, also, onlyRule, four, versionRule}
+use Rattle.contents.specs.Scan.{checkedAt}
+use Rattle.contents.specs.declared.Checked.the-variants.{Fine, Wrong}
+use Rattle.integers.specs.Number.{digitOf, turnedIf, numberOf, numberAt, allowedOf}
+use Rattle.integers.specs.declared.Number.{Number}
+use Rattle.integers.specs.declared.Allowed.{Allowed}
+use Rattle.integers.specs.declared.Allowed.the-variants.{Kind, Millimetres}
+use Rattle.integers.specs.declared.Number.the-variants.{Value, Bad}
+
+-- ---- the loop
+
+-- a digit more
+turned-drop : (neg : Bool) (c : List ℕ) (m i : ℕ) → i < length c → numberFrom 256 m (turnedIf neg (drop i c)) ≡ numberFrom 256 (m * 256 + digitOf neg (getD c i 0)) (turnedIf neg (drop (i + 1) c))
+unfolding numberFrom turned
+turned-drop true c m i h = rw (add-one, drop-cons c i 0)
+turned-drop false c m i h = rw (add-one, drop-cons c i 0)
+
+-- no digit more
+no-digits : (neg : Bool) (c : List ℕ) (m i : ℕ) → length c ≤ i → numberFrom 256 m (turnedIf neg (drop i c)) ≡ m
+unfolding numberFrom turned
+no-digits true c m i h = rw (drop-of-length-le c {i = i} h)
+no-digits false c m i h = rw (drop-of-length-le c {i = i} h)
+
+-- after `i` digits the number is `m`: the rest leads to the whole, and there is room for the digits to come
+pub record Going (neg : Bool) (c : List ℕ) (m i : ℕ) : Type 0 where
+  pub few : length c ≤ 8
+  pub within : i ≤ length c
+  pub rest : numberFrom 256 m (turnedIf neg (drop i c)) ≡ number 256 (turnedIf neg c)
+  pub room : (m + 1) * 256 ^ (8 - i) ≤ 2 ^ 63
+
+bound : (m k : ℕ) → (m + 1) * 256 ^ k ≤ 2 ^ 63 → m < 2 ^ 63
+bound m k h = omega (arith, le-mul-of-pos-right (m + 1) (pow-pos {base = 256} (omega arith) k))
+
+-- one more digit takes one power of 256 from the room
+less-room : (m d i : ℕ) → i < 8 → d < 256 → (m * 256 + d + 1) * 256 ^ (8 - (i + 1)) ≤ (m + 1) * 256 ^ (8 - i)
+less-room m d i h l =
+    let e : 8 - i ≡ suc (8 - (i + 1)) = omega arith in
+    let j : m * 256 + d + 1 ≤ (m + 1) * 256 = omega arith in
+    rw (e, pow-succ', ← mul-assoc) (mul-le-mul-right (256 ^ (8 - (i + 1))) j)
+
+module _ {neg : Bool} {c : List ℕ} where
+  pub starts : {m : ℕ} → 0 < length c → length c ≤ 8 → m ≡ digitOf neg (getD c 0 0) → m < 128 → Going neg c m 1
+  starts {m} h f e l = record {
+    few = f;
+    within = omega arith;
+    rest = sym (turned-drop neg c 0 0 h ∙ ap (λ (k : ℕ). numberFrom 256 k (turnedIf neg (drop 1 c))) (let z : 0 * 256 + digitOf neg (getD c 0 0) ≡ m = omega arith in z));
+    room = omega arith;
+  }
+
+  pub turns : {m i d : ℕ} → Going neg c m i → i < length c → d ≡ digitOf neg (getD c i 0) → d < 256 → Going neg c (m * 256 + d) (i + 1)
+  turns {m} {i} {d} g h e l = record {
+    few = g .few;
+    within = omega arith;
+    rest = rw e (sym (turned-drop neg c m i h) ∙ g .rest);
+    room = le-trans (less-room m d i (omega (arith, g .few)) l) (g .room);
+  }
+
+  -- the number so far is below 2 ^ 63, and one more digit leaves it there
+  pub small : {m i : ℕ} → Going neg c m i → m < 2 ^ 63
+  small {m} {i} g = bound m (8 - i) (g .room)
+
+  pub room-for-one : {m i : ℕ} → Going neg c m i → i < length c → m * 256 + 255 < 2 ^ 63
+  room-for-one {m} {i} g h = bound (m * 256 + 255) (8 - (i + 1)) (le-trans (less-room m 255 i (omega (arith, g .few)) (omega arith)) (g .room))
+
+  pub ends : {m i : ℕ} → Going neg c m i → length c ≤ i → m ≡ number 256 (turnedIf neg c)
+  ends {m} {i} g h = sym (no-digits neg c m i h) ∙ g .rest
+
+-- ---- the shortest form
+
+module _ (c : List ℕ) where
+  pub short-none : length c ≡ 0 → false ≡ shortest c
+  unfolding shortest
+  short-none h = go c h
+    where
+      go : (x : List ℕ) → length x ≡ 0 → false ≡ shortest x
+      go [] h = refl
+      go (a ∷ x) h = let z : ⊥ = omega arith in absurd z
+
+  pub short-one : length c ≡ 1 → true ≡ shortest c
+  unfolding shortest
+  short-one h = go c h
+    where
+      go : (x : List ℕ) → length x ≡ 1 → true ≡ shortest x
+      go [] h = let z : ⊥ = omega arith in absurd z
+      go (a ∷ []) h = refl
+      go (a ∷ b ∷ x) h = let z : ⊥ = omega arith in absurd z
+
+  short-two : (length c ≡ 0 → ⊥) → (length c ≡ 1 → ⊥) → shortest c ≡ not (eqb (getD c 0 0) (sign (getD c 1 0)))
+  unfolding shortest
+  short-two n m = go c n m
+    where
+      go : (x : List ℕ) → (length x ≡ 0 → ⊥) → (length x ≡ 1 → ⊥) → shortest x ≡ not (eqb (getD x 0 0) (sign (getD x 1 0)))
+      go [] n m = absurd (n refl)
+      go (a ∷ []) n m = absurd (m refl)
+      go (a ∷ b ∷ x) n m = refl
+
+  pub short-low : (length c ≡ 0 → ⊥) → (length c ≡ 1 → ⊥) → getD c 1 0 < 128 → not (eqb (getD c 0 0) 0) ≡ shortest c
+  unfolding sign pick
+  short-low n m b = rw (short-two n m, lt-ltb (getD c 1 0) 128 b)
+
+  pub short-high : (length c ≡ 0 → ⊥) → (length c ≡ 1 → ⊥) → 128 ≤ getD c 1 0 → not (eqb (getD c 0 0) 255) ≡ shortest c
+  unfolding sign pick
+  short-high n m b = rw (short-two n m, le-ltb (getD c 1 0) 128 b)
+
+-- ---- the cases of a content's number
+
+minus-one : (m : ℕ) → negsuc 0 -ℤ pos m ≡ negsuc m
+minus-one zero = refl
+minus-one (suc m) = ap negsuc (let e : suc (0 + m) ≡ suc m = omega arith in e)
+
+minus-one-less : (m : ℕ) → m < 2 ^ 63 → negsuc 0 -ℤ toZ w64 m ≡ negsuc m
+minus-one-less m b = rw (toZ-pos w64 b) (minus-one m)
+
+pub minus-one-fits : (m : ℕ) → m < 2 ^ 63 → SFits w64 (negsuc 0 -ℤ toZ w64 m)
+minus-one-fits m b = rw (minus-one-less m b) (record { sfits = b })
+
+module _ (c : List ℕ) where
+  pub number-shape : (t : Bool) → t ≡ shortest c → not t ≡ true → Bad ≡ numberOf c
+  unfolding numberOf wellFormed
+  number-shape t e h = let f : shortest c ≡ false = sym e ∙ not-true t h in rw f (unfold pick in refl)
+
+  pub number-long : (t : Bool) → t ≡ shortest c → not t ≡ false → 8 < length c → Bad ≡ numberOf c
+  unfolding numberOf wellFormed pick
+  number-long t e h l = let f : shortest c ≡ true = sym e ∙ not-false t h in rw (f, lt-leb (length c) 8 l)
+
+  number-good : (t : Bool) (z : ℤ) → t ≡ shortest c → not t ≡ false → length c ≤ 8 → z ≡ value c → Value z ≡ numberOf c
+  unfolding numberOf wellFormed pick
+  number-good t z e h l v = let f : shortest c ≡ true = sym e ∙ not-false t h in rw (f, le-leb (length c) 8 l) (ap Value v)
+
+  -- a content that is shortest has a byte
+  pub some-byte : (t : Bool) → t ≡ shortest c → not t ≡ false → 0 < length c
+  unfolding shortest
+  some-byte t e h = go c (sym e ∙ not-false t h)
+    where
+      go : (x : List ℕ) → shortest x ≡ true → 0 < length x
+      go [] f = let z : _≡_ {A = ℕ} 0 1 = cc in omega arith
+      go (a ∷ x) f = omega arith
+
+  value-low : getD c 0 0 < 128 → 0 < length c → value c ≡ pos (number 256 c)
+  unfolding value pick
+  value-low h k = go c h k
+    where
+      go : (x : List ℕ) → getD x 0 0 < 128 → 0 < length x → value x ≡ pos (number 256 x)
+      go [] h k = let z : ⊥ = omega arith in absurd z
+      go (a ∷ x) h k = rw (lt-ltb a 128 h)
+
+  value-high : 128 ≤ getD c 0 0 → value c ≡ negsuc (number 256 (turned c))
+  unfolding value pick
+  value-high h = go c h
+    where
+      go : (x : List ℕ) → 128 ≤ getD x 0 0 → value x ≡ negsuc (number 256 (turned x))
+      go [] h = let z : ⊥ = omega arith in absurd z
+      go (a ∷ x) h = rw (le-ltb a 128 h)
+
+  pub number-low : (t : Bool) (m : ℕ) → t ≡ shortest c → not t ≡ false → length c ≤ 8 → getD c 0 0 < 128 → m ≡ number 256 c → m < 2 ^ 63 → Value (toZ w64 m) ≡ numberOf c
+  number-low t m e h l b q f = number-good t (toZ w64 m) e h l (toZ-pos w64 f ∙ ap pos q ∙ sym (value-low b (some-byte t e h)))
+
+  pub number-high : (t : Bool) (m : ℕ) → t ≡ shortest c → not t ≡ false → length c ≤ 8 → 128 ≤ getD c 0 0 → m ≡ number 256 (turned c) → m < 2 ^ 63
+      → Value (toZ w64 (ofZ w64 (negsuc 0 -ℤ toZ w64 m))) ≡ numberOf c
+  number-high t m e h l b q f =
+      number-good t _ e h l (rw (minus-one-less m f) (toZ-ofZ {w = w64} {z = negsuc m} (record { sfits = f })) ∙ ap negsuc q ∙ sym (value-high b))
+
+-- ---- the rule, by what was read
+
+pub read-window : (s : List ℕ) (a z : ℕ) (w : List ℕ) (x : Number) → w ≡ slice a z s → x ≡ numberOf w → x ≡ numberAt s a z
+unfolding numberAt
+read-window s a z w x e f = rw (← e) f
+
+-- what a number that was read says of its content
+number-well : (c : List ℕ) (z : ℤ) → numberOf c ≡ Value z → (wellFormed c ≡ true) × (value c ≡ z)
+unfolding numberOf
+number-well c z e =
+    test (wellFormed c)
+    (λ h. let q : Value (value c) ≡ Value z = sym (pick-yes (wellFormed c) _ _ h) ∙ e in let v : value c ≡ z = cc in (is-true (wellFormed c) h, v))
+    (λ h. let q : Bad ≡ Value z = sym (pick-no (wellFormed c) _ _ h) ∙ e in let y : _≡_ {A = ℕ} 0 1 = cc in let f : ⊥ = omega arith in absurd f)
+
+number-ill : (c : List ℕ) → numberOf c ≡ Bad → wellFormed c ≡ false
+unfolding numberOf
+number-ill c e =
+    test (wellFormed c)
+    (λ h. let q : Value (value c) ≡ Bad = sym (pick-yes (wellFormed c) _ _ h) ∙ e in let y : _≡_ {A = ℕ} 0 1 = cc in let f : ⊥ = omega arith in absurd f)
+    (λ h. is-false (wellFormed c) h)
+
+module _ (s : List ℕ) (p a z : ℕ) (x : Number) (is : x ≡ numberAt s a z) (k : Allowed) where
+  pub integer-bad : x ≡ Bad → Wrong bad-integer p ≡ checkedAt (integerRule (allowedOf k)) s p a z
+  unfolding checkedAt integerRule numberAt ask placeOf
+  integer-bad e = rw (number-ill (slice a z s) (sym is ∙ e))
+
+  pub integer-good : (v : ℤ) (t : Bool) → x ≡ Value v → t ≡ allowedOf k v → t ≡ true → Fine ≡ checkedAt (integerRule (allowedOf k)) s p a z
+  unfolding checkedAt integerRule numberAt ask
+  integer-good v t e f g = let w = number-well (slice a z s) v (sym is ∙ e) in rw (w .0, w .1, ← f, g)
+
+  pub integer-other : (v : ℤ) (t : Bool) → x ≡ Value v → t ≡ allowedOf k v → t ≡ false → Wrong not-allowed p ≡ checkedAt (integerRule (allowedOf k)) s p a z
+  unfolding checkedAt integerRule numberAt ask placeOf
+  integer-other v t e f g = let w = number-well (slice a z s) v (sym is ∙ e) in rw (w .0, w .1, ← f, g)
+
+module _ (s : List ℕ) (p a z : ℕ) (c : List ℕ) (x : Number) (win : c ≡ slice a z s) (is : x ≡ numberOf c) where
+  pub version-bad : x ≡ Bad → Wrong bad-integer p ≡ checkedAt versionRule s p a z
+  unfolding checkedAt versionRule onlyRule also integerRule ask placeOf
+  version-bad e = rw (← win, number-ill c (sym is ∙ e))
+
+  pub version-good : (v : ℤ) (t : Bool) → x ≡ Value v → t ≡ same c four → t ≡ true → Fine ≡ checkedAt versionRule s p a z
+  unfolding checkedAt versionRule onlyRule also integerRule ask
+  version-good v t e f g = let w = number-well c v (sym is ∙ e) in rw (← win, w .0, ← f, g)
+
+  pub version-other : (v : ℤ) (t : Bool) → x ≡ Value v → t ≡ same c four → t ≡ false → Wrong not-allowed p ≡ checkedAt versionRule s p a z
+  unfolding checkedAt versionRule onlyRule also integerRule ask placeOf
+  version-other v t e f g = let w = number-well c v (sym is ∙ e) in rw (← win, w .0, ← f, g)
+
+-- one byte that is 4
+module _ (c : List ℕ) where
+  pub four-long : (length c ≡ 1 → ⊥) → false ≡ same c four
+  unfolding same
+  four-long h = go c h
+    where
+      go : (x : List ℕ) → (length x ≡ 1 → ⊥) → false ≡ same x four
+      go [] h = refl
+      go (a ∷ []) h = absurd (h refl)
+      go (a ∷ b ∷ x) h = and-nothing (eqb a 4)
+        where
+          and-nothing : (t : Bool) → false ≡ t && false
+          and-nothing true = refl
+          and-nothing false = refl
+
+  pub four-byte : length c ≡ 1 → eqb (getD c 0 0) 4 ≡ same c four
+  unfolding same
+  four-byte h = go c h
+    where
+      go : (x : List ℕ) → length x ≡ 1 → eqb (getD x 0 0) 4 ≡ same x four
+      go [] h = let z : ⊥ = omega arith in absurd z
+      go (a ∷ []) h = sym (and-true (eqb a 4))
+      go (a ∷ b ∷ x) h = let z : ⊥ = omega arith in absurd z
+
+-- ---- from 1 to another number
+
+-- what the machine reads of a signed number's bits
+abbrev bits : ℤ → ℤ
+bits z = toZ w64 (ofZ w64 z)
+
+one-le : (z : ℤ) → leZ (pos 1) z ≡ not (ltZ z (pos 1))
+one-le (pos zero) = refl
+one-le (pos (suc n)) = let h : 1 ≤ suc n = omega arith in rw (le-leb 1 (suc n) h, le-ltb (suc n) 1 h)
+one-le (negsuc n) = refl
+
+pub within-low : (z m : ℤ) → SFits w64 z → ltZ (bits z) (pos 1) ≡ true → false ≡ fromOne m z
+within-low z m f e = let g : ltZ z (pos 1) ≡ true = rw (toZ-ofZ f) at e in rw (one-le z, g)
+
+pub within-high : (z m : ℤ) → SFits w64 z → SFits w64 m → ltZ (bits z) (pos 1) ≡ false → leZ (bits z) (bits m) ≡ fromOne m z
+within-high z m f h e = let g : ltZ z (pos 1) ≡ false = rw (toZ-ofZ f) at e in rw (one-le z, g, toZ-ofZ f, toZ-ofZ h)
+
+-- by the kind of number that is asked for
+pub allowed-kind : (k : Allowed) (t : Bool) (z : ℤ) → SFits w64 z → k ≡ Kind → t ≡ fromOne (pos 2) (bits z) → t ≡ allowedOf k z
+allowed-kind k t z h e f = f ∙ rw (e, toZ-ofZ h)
+
+pub allowed-size : (k : Allowed) (t : Bool) (z : ℤ) → SFits w64 z → k ≡ Millimetres → t ≡ fromOne (pos 65535) (bits z) → t ≡ allowedOf k z
+allowed-size k t z h e f = f ∙ rw (e, toZ-ofZ h)

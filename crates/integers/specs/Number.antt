@@ -1,0 +1,34 @@
+-- The number of a content, by positions. Assumes nothing.
+use Prim.Native.Nat.{ℕ, _-_}
+use mathlib.Core.Bool.{Bool, true, false}
+use mathlib.Core.List.{List}
+use lib.Seq.{slice}
+use lib.IntN.{ℤ}
+use Rattle.terms.specs.Answer.{pick}
+use Rattle.contents.specs.Integer.{wellFormed, turned, value, any, isKind, isMillimetres}
+use Rattle.integers.specs.declared.Number.{Number}
+use Rattle.integers.specs.declared.Number.the-variants.{Value, Bad}
+use Rattle.integers.specs.declared.Allowed.{Allowed}
+use Rattle.integers.specs.declared.Allowed.the-variants.{Any, Kind, Millimetres}
+
+-- a byte, and a content, with every bit turned where the number is negative
+abbrev pub digitOf : Bool → ℕ → ℕ
+digitOf true b = 255 - b
+digitOf false b = b
+
+abbrev pub turnedIf : Bool → List ℕ → List ℕ
+turnedIf true c = turned c
+turnedIf false c = c
+
+-- the number of a content that has one
+unfoldable pub numberOf : List ℕ → Number
+numberOf c = pick (wellFormed c) (Value (value c)) Bad
+
+unfoldable pub numberAt : List ℕ → ℕ → ℕ → Number
+numberAt s a z = numberOf (slice a z s)
+
+-- the numbers that are allowed
+abbrev pub allowedOf : Allowed → ℤ → Bool
+allowedOf Any = any
+allowedOf Kind = isKind
+allowedOf Millimetres = isMillimetres

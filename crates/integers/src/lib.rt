@@ -1,0 +1,152 @@
+// An INTEGER's content: one to eight two's-complement bytes and the number that they stand for.
+ghost use mathlib.Core.Path.{_≡_};
+ghost use Prim.Native.Nat.{_≤_, _<_, _^_};
+ghost use lib.ListN.{length, getD};
+ghost use Rattle.contents.specs.Integer.{shortest, fromOne};
+ghost use Rattle.contents.specs.Rules.{integerRule, versionRule, four};
+ghost use Rattle.contents.specs.Scan.{checkedAt};
+ghost use Rattle.terms.specs.Answer.{same};
+ghost use Rattle.terms.specs.Digits.{number};
+ghost use Rattle.integers.specs.Number.{digitOf, turnedIf, numberOf, numberAt, allowedOf};
+
+use contents::Checked;
+
+// The number of a content, or that it is none.
+pub enum Number {
+    Value(i64),
+    Bad,
+}
+
+// Which numbers are allowed.
+pub enum Allowed {
+    Any,
+    Kind,
+    Millimetres,
+}
+
+// A byte as a digit, of a negative number with every bit turned.
+fn digit(neg: bool, b: u8) -> u64
+    ensures { λ r. ⌜ (r ≡ digitOf neg b) × (r < 256) ⌝ }
+{
+    if neg {
+        (255 - b) as u64
+    } else {
+        b as u64
+    }
+}
+
+// The digits of a content as one number.
+fn magnitude(c: &[u8], neg: bool) -> u64
+    requires { ⌜ 0 < length (now c) ⌝ }
+    requires { ⌜ length (now c) ≤ 8 ⌝ }
+    requires { ⌜ digitOf neg (getD (now c) 0 0) < 128 ⌝ }
+    ensures { λ r. ⌜ (r ≡ number 256 (turnedIf neg (now (c .entry)))) × (r < 2 ^ 63) ⌝ }
+{
+    let mut m: u64 = digit(neg, c[0]);
+    let mut i = 1;
+    while i < c.len() {
+        m = m * 256 + digit(neg, c[i]);
+        i += 1;
+    }
+    m
+}
+
+// Whether the first byte of a content is needed.
+fn is_shortest(c: &[u8]) -> bool
+    ensures { λ r. ⌜ r ≡ shortest (now (c .entry)) ⌝ }
+{
+    if c.len() == 0 {
+        return false;
+    }
+    if c.len() == 1 {
+        return true;
+    }
+    if c[1] < 128 {
+        return c[0] != 0;
+    }
+    c[0] != 255
+}
+
+// The number of a whole content.
+fn number_in(c: &[u8]) -> Number
+    ensures { λ r. ⌜ r ≡ numberOf (now (c .entry)) ⌝ }
+{
+    if !is_shortest(c) {
+        return Number::Bad;
+    }
+    if 8 < c.len() {
+        return Number::Bad;
+    }
+    if c[0] < 128 {
+        let m = magnitude(c, false);
+        return Number::Value(m as i64);
+    }
+    let m = magnitude(c, true);
+    let v = m as i64;
+    Number::Value(-1 - v)
+}
+
+// The number of the content from one position to another.
+pub fn read(s: &[u8], a: usize, z: usize) -> Number
+    ensures { λ r. ⌜ r ≡ numberAt (now (s .entry)) a z ⌝ }
+{
+    number_in(windows::window(s, a, z))
+}
+
+// Whether a number lies from 1 to another.
+fn is_within(v: i64, most: i64) -> bool
+    ensures { λ r. ⌜ r ≡ fromOne most v ⌝ }
+{
+    if v < 1 {
+        return false;
+    }
+    v <= most
+}
+
+// Whether a number is allowed.
+fn is_allowed(allowed: Allowed, v: i64) -> bool
+    ensures { λ r. ⌜ r ≡ allowedOf allowed v ⌝ }
+{
+    match allowed {
+        Allowed::Any => true,
+        Allowed::Kind => is_within(v, 2),
+        Allowed::Millimetres => is_within(v, 65535),
+    }
+}
+
+// An INTEGER by its rule: 6, then 7 where its number is not allowed.
+pub fn integer(s: &[u8], at: usize, a: usize, z: usize, allowed: Allowed) -> Checked
+    ensures { λ r. ⌜ r ≡ checkedAt (integerRule (allowedOf allowed)) (now (s .entry)) at a z ⌝ }
+{
+    let Number::Value(v) = read(s, a, z) else {
+        return Checked::Wrong(6, at);
+    };
+    if is_allowed(allowed, v) {
+        return Checked::Fine;
+    }
+    Checked::Wrong(7, at)
+}
+
+// Whether a content is the one byte 4.
+fn is_four(c: &[u8]) -> bool
+    ensures { λ r. ⌜ r ≡ same (now (c .entry)) four ⌝ }
+{
+    if c.len() != 1 {
+        return false;
+    }
+    c[0] == 4
+}
+
+// The version by its rule: 6, then 7 where it is not 4.
+pub fn version(s: &[u8], at: usize, a: usize, z: usize) -> Checked
+    ensures { λ r. ⌜ r ≡ checkedAt versionRule (now (s .entry)) at a z ⌝ }
+{
+    let c = windows::window(s, a, z);
+    let Number::Value(_) = number_in(c) else {
+        return Checked::Wrong(6, at);
+    };
+    if is_four(c) {
+        return Checked::Fine;
+    }
+    Checked::Wrong(7, at)
+}
