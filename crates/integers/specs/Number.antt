@@ -3,7 +3,7 @@ use Prim.Native.Nat.{ℕ, _-_}
 use mathlib.Core.Bool.{Bool, true, false}
 use mathlib.Core.List.{List}
 use lib.Seq.{slice}
-use lib.IntN.{ℤ}
+use lib.IntN.{ℤ, pos, negsuc}
 use Rattle.terms.specs.Answer.{pick}
 use Rattle.contents.specs.Integer.{wellFormed, turned, value, any, isKind, isMillimetres}
 use Rattle.integers.specs.declared.Number.{Number}
@@ -19,6 +19,10 @@ digitOf false b = b
 abbrev pub turnedIf : Bool → List ℕ → List ℕ
 turnedIf true c = turned c
 turnedIf false c = c
+
+abbrev pub negative : ℤ → Bool
+negative (pos n) = false
+negative (negsuc n) = true
 
 -- the number of a content that has one
 unfoldable pub numberOf : List ℕ → Number

@@ -2,14 +2,21 @@
 ghost use mathlib.Core.Path.{_≡_};
 ghost use Prim.Native.Nat.{_≤_, _<_, _^_};
 ghost use lib.ListN.{length, getD};
-ghost use Rattle.contents.specs.Integer.{shortest, fromOne};
+ghost use Rattle.contents.specs.Integer.{sign, shortest, value, fromOne, eight as eightOf, shrink, contentOf};
+ghost use lib.Signed.{mag};
+ghost use mathlib.Core.Bool.{not};
+ghost use lib.Dec.{eqb};
 ghost use Rattle.contents.specs.Rules.{integerRule, versionRule, four};
 ghost use Rattle.contents.specs.Scan.{checkedAt};
 ghost use Rattle.terms.specs.Answer.{same};
-ghost use Rattle.terms.specs.Digits.{number};
-ghost use Rattle.integers.specs.Number.{digitOf, turnedIf, numberOf, numberAt, allowedOf};
-
+ghost use Rattle.terms.specs.Digits.{number, digits as digitsOf};
+ghost use Rattle.integers.specs.Number.{digitOf, turnedIf, negative, numberOf, numberAt, allowedOf};
 use contents::Checked;
+
+// The paper's numbers of the refusals that an INTEGER gets.
+const BAD_INTEGER: u8 = 6;
+
+const NOT_ALLOWED: u8 = 7;
 
 // The number of a content, or that it is none.
 pub enum Number {
@@ -28,11 +35,7 @@ pub enum Allowed {
 fn digit(neg: bool, b: u8) -> u64
     ensures { λ r. ⌜ (r ≡ digitOf neg b) × (r < 256) ⌝ }
 {
-    if neg {
-        (255 - b) as u64
-    } else {
-        b as u64
-    }
+    if neg { (255 - b) as u64 } else { b as u64 }
 }
 
 // The digits of a content as one number.
@@ -51,6 +54,16 @@ fn magnitude(c: &[u8], neg: bool) -> u64
     m
 }
 
+// Whether a byte before another is needed.
+fn is_needed(a: u8, b: u8) -> bool
+    ensures { λ r. ⌜ r ≡ not (eqb a (sign b)) ⌝ }
+{
+    if b < 128 {
+        return a != 0;
+    }
+    a != 255
+}
+
 // Whether the first byte of a content is needed.
 fn is_shortest(c: &[u8]) -> bool
     ensures { λ r. ⌜ r ≡ shortest (now (c .entry)) ⌝ }
@@ -61,10 +74,20 @@ fn is_shortest(c: &[u8]) -> bool
     if c.len() == 1 {
         return true;
     }
-    if c[1] < 128 {
-        return c[0] != 0;
+    is_needed(c[0], c[1])
+}
+
+// The number that one to eight bytes stand for.
+fn value_in(c: &[u8]) -> i64
+    requires { ⌜ 0 < length (now c) ⌝ }
+    requires { ⌜ length (now c) ≤ 8 ⌝ }
+    ensures { λ r. ⌜ r ≡ value (now (c .entry)) ⌝ }
+{
+    if c[0] < 128 {
+        return magnitude(c, false) as i64;
     }
-    c[0] != 255
+    let m = magnitude(c, true) as i64;
+    -1 - m
 }
 
 // The number of a whole content.
@@ -77,13 +100,7 @@ fn number_in(c: &[u8]) -> Number
     if 8 < c.len() {
         return Number::Bad;
     }
-    if c[0] < 128 {
-        let m = magnitude(c, false);
-        return Number::Value(m as i64);
-    }
-    let m = magnitude(c, true);
-    let v = m as i64;
-    Number::Value(-1 - v)
+    Number::Value(value_in(c))
 }
 
 // The number of the content from one position to another.
@@ -119,12 +136,12 @@ pub fn integer(s: &[u8], at: usize, a: usize, z: usize, allowed: Allowed) -> Che
     ensures { λ r. ⌜ r ≡ checkedAt (integerRule (allowedOf allowed)) (now (s .entry)) at a z ⌝ }
 {
     let Number::Value(v) = read(s, a, z) else {
-        return Checked::Wrong(6, at);
+        return Checked::Wrong(BAD_INTEGER, at);
     };
     if is_allowed(allowed, v) {
         return Checked::Fine;
     }
-    Checked::Wrong(7, at)
+    Checked::Wrong(NOT_ALLOWED, at)
 }
 
 // Whether a content is the one byte 4.
@@ -143,10 +160,83 @@ pub fn version(s: &[u8], at: usize, a: usize, z: usize) -> Checked
 {
     let c = windows::window(s, a, z);
     let Number::Value(_) = number_in(c) else {
-        return Checked::Wrong(6, at);
+        return Checked::Wrong(BAD_INTEGER, at);
     };
     if is_four(c) {
         return Checked::Fine;
     }
-    Checked::Wrong(7, at)
+    Checked::Wrong(NOT_ALLOWED, at)
+}
+
+// Whether a number is negative.
+fn is_negative(v: i64) -> bool
+    ensures { λ r. ⌜ r ≡ negative v ⌝ }
+{
+    v < 0
+}
+
+// A number, or of a negative one what is left of -1.
+fn magnitude_of(v: i64) -> u64
+    ensures { λ r. ⌜ (r ≡ mag v) × (r < 2 ^ 63) ⌝ }
+{
+    if v < 0 { (-1 - v) as u64 } else { v as u64 }
+}
+
+// A digit as a byte, of a negative number with every bit turned.
+fn byte(neg: bool, x: u64) -> u8
+    requires { ⌜ x < 256 ⌝ }
+    ensures { λ r. ⌜ r ≡ digitOf neg x ⌝ }
+{
+    if neg { (255 - x) as u8 } else { x as u8 }
+}
+
+// The eight digits of a magnitude as bytes.
+fn bytes(neg: bool, m: u64) -> [u8; 8]
+    ensures { λ r. ⌜ r ≡ turnedIf neg (digitsOf 256 8 m) ⌝ }
+{
+    [
+        byte(neg, m / 0x100_0000_0000_0000 % 256),
+        byte(neg, m / 0x1_0000_0000_0000 % 256),
+        byte(neg, m / 0x100_0000_0000 % 256),
+        byte(neg, m / 0x1_0000_0000 % 256),
+        byte(neg, m / 0x100_0000 % 256),
+        byte(neg, m / 0x1_0000 % 256),
+        byte(neg, m / 0x100 % 256),
+        byte(neg, m % 256),
+    ]
+}
+
+// The section of a number: its eight bytes.
+pub fn eight(v: i64) -> [u8; 8]
+    ensures { λ r. ⌜ r ≡ eightOf v ⌝ }
+{
+    bytes(is_negative(v), magnitude_of(v))
+}
+
+// The number of a section.
+pub fn from_eight(b: [u8; 8]) -> i64
+    ensures { λ r. ⌜ r ≡ value b ⌝ }
+{
+    value_in(&b)
+}
+
+// How many of eight bytes are needed: those from the first that is needed on.
+fn needed(b: [u8; 8]) -> usize
+    ensures { λ r. ⌜ r ≡ length (shrink b) ⌝ }
+{
+    let mut i = 0;
+    while i < 7 {
+        if is_needed(b[i], b[i + 1]) {
+            return 8 - i;
+        }
+        i += 1;
+    }
+    1
+}
+
+// How many bytes the content of a number has, the last ones of its eight.
+pub fn size(v: i64) -> usize
+    ensures { λ r. ⌜ r ≡ length (contentOf v) ⌝ }
+{
+    needed(eight(v))
 }

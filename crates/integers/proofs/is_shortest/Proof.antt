@@ -1,10 +1,8 @@
--- `integers::is_shortest`: the first byte against the sign of the second.
-use Rattle.integers.specs.Laws.Number.{short-none, short-one, short-low, short-high}
+-- `integers::is_shortest`: of one byte it is, of more the first is needed.
+use Rattle.integers.specs.Laws.Number.{short-none, short-one, short-more}
 use borrow.Author.Needs.{needs}
 use Rattle.integers.proofs.is_shortest.Statement.{statement}
 use Rattle.integers.proofs.is_shortest.Tie as tie
-use Rattle.integers.proofs.is_shortest.Reads as reads
-use Rattle.integers.proofs.is_shortest.Lts as lts
 
 returns : tie.Need-returns
 returns c = search (needs, short-none)
@@ -12,20 +10,17 @@ returns c = search (needs, short-none)
 returns-2 : tie.Need-returns-2
 returns-2 c = search (needs, short-one)
 
-shared-slice-read-if3 : tie.Need-shared-slice-read-if3
-shared-slice-read-if3 c = search needs
+shared-slice-read-is-needed : tie.Need-shared-slice-read-is-needed
+shared-slice-read-is-needed c = search needs
 
-shared-slice-read-result : tie.Need-shared-slice-read-result
-shared-slice-read-result c = search needs
+shared-slice-read-is-needed-2 : tie.Need-shared-slice-read-is-needed-2
+shared-slice-read-is-needed-2 c = search needs
+
+is-needed-requires : tie.Need-is-needed-requires
+is-needed-requires c κs = search needs
 
 returns-3 : tie.Need-returns-3
-returns-3 c = search (needs, short-low)
-
-shared-slice-read-result-2 : tie.Need-shared-slice-read-result-2
-shared-slice-read-result-2 c = search needs
-
-returns-4 : tie.Need-returns-4
-returns-4 c = search (needs, short-high)
+returns-3 c = search (needs, short-more)
 
 pub is-shortest-spec : {M : Type 1} → statement M
 is-shortest-spec =
@@ -33,8 +28,7 @@ is-shortest-spec =
     (tie.spec
     returns
     returns-2
-    shared-slice-read-if3
-    shared-slice-read-result
-    returns-3
-    shared-slice-read-result-2
-    returns-4)
+    shared-slice-read-is-needed
+    shared-slice-read-is-needed-2
+    is-needed-requires
+    returns-3)

@@ -1,14 +1,14 @@
 -- The loop over a content's digits, and the cases of its number, with premises as code has them. Assumes nothing.
 use mathlib.Core.Path.{_≡_, refl, sym, ap, _∙_, subst}
-use Prim.Native.Nat.{ℕ, zero, suc, _+_, _-_, _*_, _^_, _≤_, _<_}
+use Prim.Native.Nat.{ℕ, zero, suc, _+_, _-_, _*_, _/_, _%_, _^_, _≤_, _<_}
 use native.Mathlib.Omega.{arith}
 use native.Mathlib.Numerals.{add-one}
-use native.Mathlib.Nat.{mul-le-mul-right, le-trans, mul-assoc, le-mul-of-pos-right, pow-succ'}
+use native.Mathlib.Nat.{div-one, mul-le-mul-right, le-trans, mul-assoc, le-mul-of-pos-right, pow-succ'}
 use mathlib.Core.Bool.{Bool, true, false, not, _&&_, and-true}
 use mathlib.Core.List.{List, [], _∷_}
-use lib.ListN.{length, getD, drop, drop-of-length-le}
+use lib.ListN.{length, getD, drop, drop-of-length-le, length-drop}
 use lib.Seq.{slice, drop-cons}
-use lib.Signed.{leZ, ltZ}
+use lib.Signed.{leZ, ltZ, mag}
 use lib.IntN.{ℤ, pos, negsuc, _-ℤ_}
 use lib.Dec.{T, leb, ltb, eqb}
 use mir.Syntax.{w64}
@@ -18,14 +18,14 @@ use borrow.Author.Tests.{lt-ltb, le-ltb, le-leb, lt-leb, not-true, not-false}
 use Rattle.terms.specs.Numbers.{bad-integer, not-allowed}
 use Rattle.terms.specs.Answer.{pick, same}
 use Rattle.terms.specs.Laws.Answer.{test, is-true, is-false, pick-yes, pick-no}
-use Rattle.terms.specs.Digits.{numberFrom, number}
+use Rattle.terms.specs.Digits.{digits, numberFrom, number}
 use Rattle.terms.specs.Laws.Digits.{pow-pos}
-use Rattle.contents.specs.Integer.{sign, shortest, wellFormed, turned, value, fromOne}
+use Rattle.contents.specs.Integer.{sign, shortest, wellFormed, turned, value, fromOne, eight, shrink, contentOf}
 use Rattle.contents.specs.Content.{ask, placeOf}
 use Rattle.contents.specs.Rules.{integerRule, also, onlyRule, four, versionRule}
 use Rattle.contents.specs.Scan.{checkedAt}
 use Rattle.contents.specs.declared.Checked.the-variants.{Fine, Wrong}
-use Rattle.integers.specs.Number.{digitOf, turnedIf, numberOf, numberAt, allowedOf}
+use Rattle.integers.specs.Number.{digitOf, turnedIf, negative, numberOf, numberAt, allowedOf}
 use Rattle.integers.specs.declared.Number.{Number}
 use Rattle.integers.specs.declared.Allowed.{Allowed}
 use Rattle.integers.specs.declared.Allowed.the-variants.{Kind, Millimetres}
@@ -118,13 +118,17 @@ module _ (c : List ℕ) where
       go (a ∷ []) n m = absurd (m refl)
       go (a ∷ b ∷ x) n m = refl
 
-  pub short-low : (length c ≡ 0 → ⊥) → (length c ≡ 1 → ⊥) → getD c 1 0 < 128 → not (eqb (getD c 0 0) 0) ≡ shortest c
-  unfolding sign pick
-  short-low n m b = rw (short-two n m, lt-ltb (getD c 1 0) 128 b)
+  pub short-more : (t : Bool) → (length c ≡ 0 → ⊥) → (length c ≡ 1 → ⊥) → t ≡ not (eqb (getD c 0 0) (sign (getD c 1 0))) → t ≡ shortest c
+  short-more t n m e = e ∙ sym (short-two n m)
 
-  pub short-high : (length c ≡ 0 → ⊥) → (length c ≡ 1 → ⊥) → 128 ≤ getD c 1 0 → not (eqb (getD c 0 0) 255) ≡ shortest c
-  unfolding sign pick
-  short-high n m b = rw (short-two n m, le-ltb (getD c 1 0) 128 b)
+-- a byte against the sign of the next
+pub needed-low : (a b : ℕ) → b < 128 → not (eqb a 0) ≡ not (eqb a (sign b))
+unfolding sign pick
+needed-low a b h = rw (lt-ltb b 128 h)
+
+pub needed-high : (a b : ℕ) → 128 ≤ b → not (eqb a 255) ≡ not (eqb a (sign b))
+unfolding sign pick
+needed-high a b h = rw (le-ltb b 128 h)
 
 -- ---- the cases of a content's number
 
@@ -176,13 +180,14 @@ module _ (c : List ℕ) where
       go [] h = let z : ⊥ = omega arith in absurd z
       go (a ∷ x) h = rw (le-ltb a 128 h)
 
-  pub number-low : (t : Bool) (m : ℕ) → t ≡ shortest c → not t ≡ false → length c ≤ 8 → getD c 0 0 < 128 → m ≡ number 256 c → m < 2 ^ 63 → Value (toZ w64 m) ≡ numberOf c
-  number-low t m e h l b q f = number-good t (toZ w64 m) e h l (toZ-pos w64 f ∙ ap pos q ∙ sym (value-low b (some-byte t e h)))
+  pub number-value : (t : Bool) (v : ℤ) → t ≡ shortest c → not t ≡ false → length c ≤ 8 → v ≡ value c → Value v ≡ numberOf c
+  number-value t v e h l q = number-good t v e h l q
 
-  pub number-high : (t : Bool) (m : ℕ) → t ≡ shortest c → not t ≡ false → length c ≤ 8 → 128 ≤ getD c 0 0 → m ≡ number 256 (turned c) → m < 2 ^ 63
-      → Value (toZ w64 (ofZ w64 (negsuc 0 -ℤ toZ w64 m))) ≡ numberOf c
-  number-high t m e h l b q f =
-      number-good t _ e h l (rw (minus-one-less m f) (toZ-ofZ {w = w64} {z = negsuc m} (record { sfits = f })) ∙ ap negsuc q ∙ sym (value-high b))
+  pub value-positive : (m : ℕ) → 0 < length c → getD c 0 0 < 128 → m ≡ number 256 c → m < 2 ^ 63 → toZ w64 m ≡ value c
+  value-positive m k b q f = toZ-pos w64 f ∙ ap pos q ∙ sym (value-low b k)
+
+  pub value-negative : (m : ℕ) → 128 ≤ getD c 0 0 → m ≡ number 256 (turned c) → m < 2 ^ 63 → toZ w64 (ofZ w64 (negsuc 0 -ℤ toZ w64 m)) ≡ value c
+  value-negative m b q f = rw (minus-one-less m f) (toZ-ofZ {w = w64} {z = negsuc m} (record { sfits = f })) ∙ ap negsuc q ∙ sym (value-high b)
 
 -- ---- the rule, by what was read
 
@@ -278,3 +283,79 @@ allowed-kind k t z h e f = f ∙ rw (e, toZ-ofZ h)
 
 pub allowed-size : (k : Allowed) (t : Bool) (z : ℤ) → SFits w64 z → k ≡ Millimetres → t ≡ fromOne (pos 65535) (bits z) → t ≡ allowedOf k z
 allowed-size k t z h e f = f ∙ rw (e, toZ-ofZ h)
+
+-- ---- back: a number's sign, magnitude and bytes
+
+under-zero : (z : ℤ) → ltZ z (pos 0) ≡ negative z
+under-zero (pos n) = le-ltb n 0 (omega arith)
+under-zero (negsuc n) = refl
+
+pub negative-test : (z : ℤ) → SFits w64 z → ltZ (bits z) (pos 0) ≡ negative z
+negative-test z f = rw (toZ-ofZ f) (under-zero z)
+
+flip : (z : ℤ) → negative z ≡ true → negsuc 0 -ℤ z ≡ pos (mag z)
+flip (pos n) e = absurd (subst (λ (b : Bool). T b) (sym e) tt)
+flip (negsuc n) e = simp (le-ltb (suc n) 1 (omega arith)) (ap pos (let q : suc n - 1 ≡ n = omega arith in q))
+
+keep : (z : ℤ) → negative z ≡ false → z ≡ pos (mag z)
+keep (pos n) e = refl
+keep (negsuc n) e = absurd (subst (λ (b : Bool). T b) e tt)
+
+module _ (z : ℤ) (f : SFits w64 z) where
+  pub flipped : ltZ (bits z) (pos 0) ≡ true → negsuc 0 -ℤ bits z ≡ pos (mag z)
+  flipped e = rw (toZ-ofZ f) (flip z (sym (negative-test z f) ∙ e))
+
+  pub kept : ltZ (bits z) (pos 0) ≡ false → bits z ≡ pos (mag z)
+  kept e = toZ-ofZ f ∙ keep z (sym (negative-test z f) ∙ e)
+
+pub eight-bytes : (neg : Bool) (m : ℕ) {xa xb xc xd xe xf xg xh : ℕ} → xa ≡ digitOf neg (m / 0x100_0000_0000_0000 % 256) → xb ≡ digitOf neg (m / 0x1_0000_0000_0000 % 256)
+    → xc ≡ digitOf neg (m / 0x100_0000_0000 % 256) → xd ≡ digitOf neg (m / 0x1_0000_0000 % 256) → xe ≡ digitOf neg (m / 0x100_0000 % 256) → xf ≡ digitOf neg (m / 0x1_0000 % 256)
+    → xg ≡ digitOf neg (m / 0x100 % 256) → xh ≡ digitOf neg (m % 256) → xa ∷ xb ∷ xc ∷ xd ∷ xe ∷ xf ∷ xg ∷ xh ∷ [] ≡ turnedIf neg (digits 256 8 m)
+unfolding digits turned
+eight-bytes true m pa pb pc pd pe pf pg ph = simp (pa, pb, pc, pd, pe, pf, pg, ph, div-one)
+eight-bytes false m pa pb pc pd pe pf pg ph = simp (pa, pb, pc, pd, pe, pf, pg, ph, div-one)
+
+eight-by : (z : ℤ) → turnedIf (negative z) (digits 256 8 (mag z)) ≡ eight z
+unfolding eight
+eight-by (pos n) = refl
+eight-by (negsuc n) = refl
+
+pub eight-of : (z : ℤ) (t : Bool) (m : ℕ) (x : List ℕ) → SFits w64 z → t ≡ negative (bits z) → m ≡ mag (bits z) → x ≡ turnedIf t (digits 256 8 m) → x ≡ eight z
+eight-of z t m x h e f g = g ∙ rw (e, f, toZ-ofZ h) (eight-by z)
+
+-- ---- the bytes that are needed
+
+module _ (x : List ℕ) where
+  shrink-at : (i : ℕ) → i + 1 < length x → shrink (drop i x) ≡ pick (eqb (getD x i 0) (sign (getD x (i + 1) 0))) (shrink (drop (i + 1) x)) (drop i x)
+  unfolding shrink
+  shrink-at i h =
+      let a : drop i x ≡ getD x i 0 ∷ drop (i + 1) x = rw (add-one) (drop-cons x i 0 (omega arith)) in
+      let b : drop (i + 1) x ≡ getD x (i + 1) 0 ∷ drop (suc (i + 1)) x = drop-cons x (i + 1) 0 h in
+      rw (a, b)
+
+  -- what is left from here on is the whole answer
+  pub shrink-starts : shrink x ≡ shrink (drop 0 x)
+  shrink-starts = refl
+
+  pub shrink-on : (i : ℕ) (t : Bool) → i + 1 < length x → shrink x ≡ shrink (drop i x) → t ≡ not (eqb (getD x i 0) (sign (getD x (i + 1) 0))) → t ≡ false → shrink x ≡ shrink (drop (i + 1) x)
+  unfolding pick
+  shrink-on i t h e f g = e ∙ shrink-at i h ∙ rw (not-false (eqb (getD x i 0) (sign (getD x (i + 1) 0))) (sym f ∙ g))
+
+  pub shrink-stops : (i n : ℕ) (t : Bool) → i + 1 < length x → shrink x ≡ shrink (drop i x) → t ≡ not (eqb (getD x i 0) (sign (getD x (i + 1) 0))) → t ≡ true → n ≡ length x - i → n ≡ length (shrink x)
+  unfolding pick
+  shrink-stops i n t h e f g k =
+      let q : shrink x ≡ drop i x = e ∙ shrink-at i h ∙ rw (not-true (eqb (getD x i 0) (sign (getD x (i + 1) 0))) (sym f ∙ g)) in
+      k ∙ sym (rw q (length-drop i x))
+
+  pub shrink-last : (i : ℕ) → length x ≡ i + 1 → shrink x ≡ shrink (drop i x) → 1 ≡ length (shrink x)
+  unfolding shrink
+  shrink-last i h e = sym (rw e (go (drop i x) (length-drop i x ∙ omega arith)))
+    where
+      go : (y : List ℕ) → length y ≡ 1 → length (shrink y) ≡ 1
+      go [] k = k
+      go (a ∷ []) k = refl
+      go (a ∷ b ∷ y) k = let z : ⊥ = omega arith in absurd z
+
+pub content-size : (z : ℤ) (x : List ℕ) (n : ℕ) → SFits w64 z → x ≡ eight (bits z) → n ≡ length (shrink x) → n ≡ length (contentOf z)
+unfolding contentOf
+content-size z x n h e f = f ∙ rw (e, toZ-ofZ h)

@@ -1,0 +1,67 @@
+-- `integers::needed`: the bytes that are left from each turn on have the same content.
+use Rattle.integers.specs.Laws.Number.{shrink-on, shrink-stops, shrink-last}
+use native.Mathlib.Omega.{arith}
+use mathlib.Core.Path.{_≡_, refl}
+use Rattle.contents.specs.Integer.{shrink}
+use lib.ListN.{length, drop}
+use Prim.Native.Nat.{_≤_, _-_}
+use borrow.Author.Needs.{needs}
+use Rattle.integers.proofs.needed.Statement.{statement}
+use Rattle.integers.proofs.needed.Tie as tie
+
+abbrev Inv-loop : tie.InvT-loop
+Inv-loop b i₀ i = (i ≤ 7) × (length b ≡ 8) × (shrink b ≡ shrink (drop i b))
+
+abbrev μ-loop : tie.MeasureT-loop
+μ-loop b i₀ i = 7 - i
+
+loop-holds : tie.Need-loop-holds Inv-loop μ-loop
+loop-holds c = (search needs, search needs, refl)
+
+array-read-is-needed : tie.Need-array-read-is-needed Inv-loop μ-loop
+array-read-is-needed c = search needs
+
+add-is-needed : tie.Need-add-is-needed Inv-loop μ-loop
+add-is-needed c = search needs
+
+array-read-is-needed-2 : tie.Need-array-read-is-needed-2 Inv-loop μ-loop
+array-read-is-needed-2 c = search needs
+
+is-needed-requires : tie.Need-is-needed-requires Inv-loop μ-loop
+is-needed-requires c κs = search needs
+
+sub-result : tie.Need-sub-result Inv-loop μ-loop
+sub-result c = search needs
+
+returns : tie.Need-returns Inv-loop μ-loop
+returns c = shrink-stops _ (c .before .before .before .loop .i) _ _ (omega arith) (c .before .before .before .loop .inv .2) (c .before .is-needed .ensures) (c .if1 .taken) (omega arith)
+
+add-i : tie.Need-add-i Inv-loop μ-loop
+add-i c = search needs
+
+loop-less : tie.Need-loop-less Inv-loop μ-loop
+loop-less c = search needs
+
+loop-again : tie.Need-loop-again Inv-loop μ-loop
+loop-again c = (search needs, search needs, shrink-on _ (c .before .before .before .loop .i) _ (omega arith) (c .before .before .before .loop .inv .2) (c .before .is-needed .ensures) (c .if1 .left))
+
+returns-2 : tie.Need-returns-2 Inv-loop μ-loop
+returns-2 c = shrink-last _ (c .before .loop .i) (omega arith) (c .before .loop .inv .2)
+
+pub needed-spec : {M : Type 1} → statement M
+needed-spec =
+    tie.close
+    (tie.spec
+    Inv-loop
+    μ-loop
+    loop-holds
+    array-read-is-needed
+    add-is-needed
+    array-read-is-needed-2
+    is-needed-requires
+    sub-result
+    returns
+    add-i
+    loop-less
+    loop-again
+    returns-2)

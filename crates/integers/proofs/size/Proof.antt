@@ -1,0 +1,17 @@
+-- `integers::size`: the needed ones of its eight bytes.
+use Rattle.integers.specs.Laws.Number.{content-size}
+use borrow.Author.Needs.{needs}
+use Rattle.integers.proofs.size.Statement.{statement}
+use Rattle.integers.proofs.size.Tie as tie
+
+eight-requires : tie.Need-eight-requires
+eight-requires c κs = search needs
+
+needed-requires : tie.Need-needed-requires
+needed-requires c κs = search needs
+
+returns : tie.Need-returns
+returns c = search (needs, content-size)
+
+pub size-spec : {M : Type 1} → statement M
+size-spec = tie.close (tie.spec eight-requires needed-requires returns)

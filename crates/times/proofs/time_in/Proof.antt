@@ -1,0 +1,59 @@
+-- `times::time_in` joins date and clock; `time-in` says that the rules' parts in their order are these two.
+use native.Mathlib.Omega.{arith}
+use borrow.Author.Needs.{needs}
+use Rattle.times.specs.Laws.Parts.{at-most}
+use Rattle.times.specs.Laws.Whole.{timeIn, as-read, steps}
+use Rattle.times.proofs.time_in.Statement.{statement}
+use Rattle.times.proofs.time_in.Tie as tie
+
+date-in-requires : tie.Need-date-in-requires
+date-in-requires c κs = search needs
+
+enum-known-d : tie.Need-enum-known-d
+enum-known-d c = search needs
+
+enum-told : tie.Need-enum-told
+enum-told c = search needs
+
+returns : tie.Need-returns
+unfolding timeIn
+returns c = search (needs, as-read, steps) depth 12
+
+clock-in-requires : tie.Need-clock-in-requires
+clock-in-requires c κs = search needs
+
+enum-known-t : tie.Need-enum-known-t
+enum-known-t c = search needs
+
+enum-told-2 : tie.Need-enum-told-2
+enum-told-2 c = search needs
+
+returns-2 : tie.Need-returns-2
+unfolding timeIn
+returns-2 c = search (needs, as-read, steps) depth 12
+
+mul-t6 : tie.Need-mul-t6
+mul-t6 c = omega (arith, at-most (c .before .before .before .before .before .before .before .date-in .ensures .1) (c .before .before .before .before .before .d .given .1))
+
+add-t7 : tie.Need-add-t7
+add-t7 c = omega (arith, at-most (c .before .before .before .before .before .before .before .date-in .ensures .1) (c .before .before .before .before .before .d .given .1), at-most (c .before .before .before .clock-in .ensures .1) (c .before .t .given .1))
+
+returns-3 : tie.Need-returns-3
+unfolding timeIn
+returns-3 c = search (needs, as-read, steps) depth 12
+
+pub time-in-spec : {M : Type 1} → statement M
+time-in-spec =
+    tie.close
+    (tie.spec
+    date-in-requires
+    enum-known-d
+    enum-told
+    returns
+    clock-in-requires
+    enum-known-t
+    enum-told-2
+    returns-2
+    mul-t6
+    add-t7
+    returns-3)

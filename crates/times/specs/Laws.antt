@@ -1,0 +1,4 @@
+pub mod Months
+pub mod Parts
+pub mod Whole
+pub mod Real

@@ -1,0 +1,265 @@
+// Times: the Gregorian rule, a record's time by its bytes, a finding's time by its number.
+ghost use mathlib.Core.Path.{_≡_};
+ghost use mathlib.Core.Bool.{_&&_};
+ghost use Prim.Native.Nat.{_+_, _*_, _^_, _≤_, _<_};
+ghost use lib.ListN.{drop};
+ghost use lib.Seq.{slice};
+ghost use lib.Dec.{eqb};
+ghost use Rattle.contents.specs.Time.{leap, monthLength, year-digits, timeFrom, timeRule, moment as instant, momentOf, written, isReal};
+ghost use Rattle.contents.specs.Scan.{checkedAt};
+ghost use Rattle.times.specs.Laws.Parts.{firstDigit, inside, AtMost, partAt};
+ghost use Rattle.times.specs.Laws.Whole.{told, closing, dateIn, clockIn};
+ghost use Rattle.times.specs.Laws.Real.{there};
+use contents::Checked;
+
+// A number that was read, or none.
+enum Reading {
+    Number(u64),
+    Nothing,
+}
+
+// The number of every refusal of a time.
+const BAD_TIME: u8 = 10;
+
+// The last month of a year, the last hour of a day, the last minute of an hour and the last second of a minute.
+const LAST_MONTH: u64 = 12;
+
+const LAST_HOUR: u64 = 23;
+
+const LAST_MINUTE: u64 = 59;
+
+const LAST_SECOND: u64 = 59;
+
+// The days of each month, January first, in a year that is no leap year.
+const MONTHS: [u64; 12] = [31, 28, 31, 30, 31, 30, 31, 31, 30, 31, 30, 31];
+
+// A year is a leap year if 4 divides it, and, where 100 divides it, 400 too.
+fn is_leap(y: u64) -> bool
+    ensures { λ r. ⌜ r ≡ leap y ⌝ }
+{
+    if y % 4 != 0 {
+        return false;
+    }
+    if y % 100 != 0 {
+        return true;
+    }
+    y % 400 == 0
+}
+
+// February of a leap year.
+fn is_long_february(year: u64, month: u64) -> bool
+    ensures { λ r. ⌜ r ≡ leap year && eqb month 2 ⌝ }
+{
+    if month != 2 {
+        return false;
+    }
+    is_leap(year)
+}
+
+// How many days a month has. Number 0 is taken as January; past December there are none.
+pub fn month_length(year: u64, month: u64) -> u64
+    ensures { λ r. ⌜ r ≡ monthLength year month ⌝ }
+{
+    if is_long_february(year, month) {
+        return 29;
+    }
+    if month == 0 {
+        return 31;
+    }
+    if LAST_MONTH < month {
+        return 0;
+    }
+    let i = (month - 1) as usize;
+    MONTHS[i]
+}
+
+// The digit at a position.
+fn digit_at(w: &[u8], i: usize) -> Reading
+    ensures { λ r. ⌜ (r ≡ firstDigit (drop i (now (w .entry)))) × AtMost 9 r ⌝ }
+{
+    if w.len() <= i {
+        return Reading::Nothing;
+    }
+    let b = w[i];
+    if b < 0x30 {
+        return Reading::Nothing;
+    }
+    if 0x39 < b {
+        return Reading::Nothing;
+    }
+    Reading::Number((b - 0x30) as u64)
+}
+
+// A number from a least to a most number.
+fn is_within(low: u64, high: u64, n: u64) -> bool
+    ensures { λ r. ⌜ r ≡ inside low high n ⌝ }
+{
+    if n < low {
+        return false;
+    }
+    n <= high
+}
+
+// One part of a time: the number of the `k` digits at `i`, where it lies from `low` to `high`.
+fn part_at(w: &[u8], i: usize, k: usize, low: u64, high: u64) -> Reading
+    requires { ⌜ (i ≤ 12) × (k ≤ 4) × (low < 10 ^ k) ⌝ }
+    ensures { λ r. ⌜ (r ≡ partAt k low high i (now (w .entry))) × AtMost high r ⌝ }
+{
+    let mut n: u64 = 0;
+    let mut j = 0;
+    while j < k {
+        let d = digit_at(w, i + j);
+        let Reading::Number(x) = d else {
+            return Reading::Nothing;
+        };
+        n = n * 10 + x;
+        j += 1;
+    }
+    if !is_within(low, high, n) {
+        return Reading::Nothing;
+    }
+    Reading::Number(n)
+}
+
+// Three parts as one number, the last two with two digits each.
+fn joined(a: u64, b: u64, c: u64) -> u64
+    requires { ⌜ (a ≤ 9999) × (b ≤ 99) × (c ≤ 99) ⌝ }
+    ensures { λ r. ⌜ (r ≡ (a * 100 + b) * 100 + c) × (r ≤ 99999999) ⌝ }
+{
+    (a * 100 + b) * 100 + c
+}
+
+// A time's date: year, month and day as one number.
+fn date_in(w: &[u8]) -> Reading
+    ensures { λ r. ⌜ (r ≡ dateIn (now (w .entry))) × AtMost 99999999 r ⌝ }
+{
+    let y = part_at(w, 0, 4, 0, 9999);
+    let Reading::Number(year) = y else {
+        return Reading::Nothing;
+    };
+    let m = part_at(w, 4, 2, 1, LAST_MONTH);
+    let Reading::Number(month) = m else {
+        return Reading::Nothing;
+    };
+    let d = part_at(w, 6, 2, 1, month_length(year, month));
+    let Reading::Number(day) = d else {
+        return Reading::Nothing;
+    };
+    Reading::Number(joined(year, month, day))
+}
+
+// The closing Z.
+fn closes(w: &[u8]) -> bool
+    ensures { λ r. ⌜ r ≡ closing (drop 14 (now (w .entry))) ⌝ }
+{
+    if w.len() <= 14 {
+        return false;
+    }
+    w[14] == 0x5a
+}
+
+// What follows the date: hour, minute and second as one number, and the Z.
+fn clock_in(w: &[u8]) -> Reading
+    ensures { λ r. ⌜ (r ≡ clockIn (now (w .entry))) × AtMost 99999999 r ⌝ }
+{
+    let h = part_at(w, 8, 2, 0, LAST_HOUR);
+    let Reading::Number(hour) = h else {
+        return Reading::Nothing;
+    };
+    let i = part_at(w, 10, 2, 0, LAST_MINUTE);
+    let Reading::Number(minute) = i else {
+        return Reading::Nothing;
+    };
+    let s = part_at(w, 12, 2, 0, LAST_SECOND);
+    let Reading::Number(second) = s else {
+        return Reading::Nothing;
+    };
+    if !closes(w) {
+        return Reading::Nothing;
+    }
+    Reading::Number(joined(hour, minute, second))
+}
+
+// The number of the time that a window begins with.
+fn time_in(w: &[u8]) -> Reading
+    ensures { λ r. ⌜ r ≡ told (timeFrom year-digits (now (w .entry)) 0) ⌝ }
+{
+    let d = date_in(w);
+    let Reading::Number(date) = d else {
+        return Reading::Nothing;
+    };
+    let t = clock_in(w);
+    let Reading::Number(clock) = t else {
+        return Reading::Nothing;
+    };
+    Reading::Number(date * 1000000 + clock)
+}
+
+// Whether the content from `a` to `z` is a time, in the item whose tag stands at `at`.
+pub fn time(s: &[u8], at: usize, a: usize, z: usize) -> Checked
+    ensures { λ r. ⌜ r ≡ checkedAt timeRule (now (s .entry)) at a z ⌝ }
+{
+    let w = windows::window(s, a, z);
+    if 15 < w.len() {
+        return Checked::Wrong(BAD_TIME, at);
+    }
+    let t = time_in(w);
+    let Reading::Number(_) = t else {
+        return Checked::Wrong(BAD_TIME, at);
+    };
+    Checked::Fine
+}
+
+// The number of the time in the content from `a` to `z`, 0 where there is none.
+pub fn moment(s: &[u8], a: usize, z: usize) -> u64
+    ensures { λ r. ⌜ instant r ≡ momentOf (slice a z (now (s .entry))) ⌝ }
+{
+    let t = time_in(windows::window(s, a, z));
+    let Reading::Number(n) = t else {
+        return 0;
+    };
+    n
+}
+
+// Whether the first eight of fourteen digits are a date.
+fn is_date(n: u64) -> bool
+    requires { ⌜ n ≤ 99999999999999 ⌝ }
+    ensures { λ r. ⌜ r ≡ there (dateIn (written n)) ⌝ }
+{
+    let year = n / 10000000000;
+    let month = n / 100000000 % 100;
+    let day = n / 1000000 % 100;
+    if !is_within(1, LAST_MONTH, month) {
+        return false;
+    }
+    is_within(1, month_length(year, month), day)
+}
+
+// Whether the last six of fourteen digits are hour, minute and second.
+fn is_clock(n: u64) -> bool
+    ensures { λ r. ⌜ r ≡ there (clockIn (written n)) ⌝ }
+{
+    let hour = n / 10000 % 100;
+    let minute = n / 100 % 100;
+    let second = n % 100;
+    if !is_within(0, LAST_HOUR, hour) {
+        return false;
+    }
+    if !is_within(0, LAST_MINUTE, minute) {
+        return false;
+    }
+    is_within(0, LAST_SECOND, second)
+}
+
+// Whether a finding's number is a real date and time in fourteen digits.
+pub fn is_real(n: u64) -> bool
+    ensures { λ r. ⌜ r ≡ isReal n ⌝ }
+{
+    if 99999999999999 < n {
+        return false;
+    }
+    if !is_date(n) {
+        return false;
+    }
+    is_clock(n)
+}
