@@ -1,0 +1,21 @@
+-- The rule asks only whether a byte that is needed is there, of the range cut to the slice.
+use Rattle.texts.specs.Laws.Range.{cut-rule}
+use Rattle.texts.specs.Laws.Rules.{octets-rule}
+use borrow.Author.Needs.{needs}
+use Rattle.texts.proofs.octets.Statement.{statement}
+use Rattle.texts.proofs.octets.Tie as tie
+
+upto-requires : tie.Need-upto-requires
+upto-requires c κs = search needs
+
+enough-requires : tie.Need-enough-requires
+enough-requires c κs = search needs
+
+ask-requires : tie.Need-ask-requires
+ask-requires c κs = search needs
+
+returns : tie.Need-returns
+returns c = search (needs, cut-rule, octets-rule)
+
+pub octets-spec : {M : Type 1} → statement M
+octets-spec = tie.close (tie.spec upto-requires enough-requires ask-requires returns)
