@@ -3,12 +3,12 @@
 use Prim.Native.Nat.{ℕ, suc, zero}
 use mathlib.Core.Bool.{Bool, _&&_, _||_}
 use mathlib.Core.List.{List}
-use lib.ListN.{getD}
+use lib.ListN.{length, getD}
 use lib.Seq.{slice}
 use lib.Dec.{ltb, eqb}
 use Rattle.terms.specs.Numbers.{left-over, no-item, too-many-items}
 use Rattle.terms.specs.Answer.{pick}
-use Rattle.heads.specs.Scan.{headAt}
+use Rattle.heads.specs.Scan.{headAt, outermostAt}
 use Rattle.heads.specs.declared.Seen.{Seen}
 use Rattle.heads.specs.declared.Seen.the-variants.{Item as At, Refused as Bad}
 use Rattle.heads.specs.declared.Step.{Step}
@@ -17,6 +17,7 @@ use Rattle.contents.specs.Content.{Check, fine, wrong, Leaf, placeOf}
 use Rattle.contents.specs.Rules.{onlyRule}
 use Rattle.contents.specs.Leaves.{boolean}
 use Rattle.layouts.specs.Layout.{Item, leaf, node, list, wrap, Members, end, _▸_, Member, known, one, maybe, flag, choose, tagOf}
+use Rattle.layouts.specs.Whole.{sequence}
 
 abbrev pub thenSeen : Seen → (ℕ → ℕ → Step) → Step
 thenSeen (At a z) k = k a z
@@ -67,3 +68,10 @@ unfoldable mutual
   scanPart (maybe f i) s p e = pick (beginsAt (tagOf i) s p e) (scan i s p e) (Next p)
   scanPart (flag f) s p e = pick (beginsAt (boolean .tag) s p e) (thenSeen (leafAt boolean s p e) λ a z. Next z) (Next p)
   scanPart (choose f l t g i j) s p e = thenSeen (leafAt l s p e) λ a z. pick (t (slice a z s)) (scan i s z e) (scan j s z e)
+
+-- a record at a position, and one that is the whole slice
+unfoldable pub recordScan : ℕ → Members → List ℕ → ℕ → ℕ → Step
+recordScan most r s p e = thenSeen (outermostAt most sequence s p e) λ a z. scans r s a z
+
+unfoldable pub wholeScan : ℕ → Members → List ℕ → Step
+wholeScan most r s = thenStep (recordScan most r s 0 (length s)) λ q. closeAt q (length s)

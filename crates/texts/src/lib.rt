@@ -60,7 +60,7 @@ fn ask_two(first: bool, n: u8, second: bool, m: u8, at: usize) -> Checked
 }
 
 // Whether a content from `a` to `z` has the byte that it needs; `empty`: it may have none.
-fn enough(a: usize, z: usize, empty: bool) -> bool
+pub fn enough(a: usize, z: usize, empty: bool) -> bool
     ensures { λ r. ⌜ r ≡ empty || ltb a z ⌝ }
 {
     if empty {

@@ -12,9 +12,9 @@ use borrow.Author.Tests.{lt-ltb, le-ltb}
 use Rattle.terms.specs.Numbers.{left-over, no-item, too-many-items}
 use Rattle.terms.specs.Answer.{Res, good, fault, Got, pick, bind, need, enough}
 use Rattle.terms.specs.Laws.Answer.{good-inj, test, by-bind}
-use Rattle.heads.specs.Head.{Cut, head, tlv, octets}
-use Rattle.heads.specs.Scan.{seen, headAt}
-use Rattle.heads.specs.Laws.Head.{head-back}
+use Rattle.heads.specs.Head.{Cut, head, outermost, tlv, octets}
+use Rattle.heads.specs.Scan.{seen, headAt, outermostAt}
+use Rattle.heads.specs.Laws.Head.{head-back, outermost-back}
 use Rattle.heads.specs.declared.Seen.{Seen}
 use Rattle.heads.specs.declared.Step.{Step}
 use Rattle.heads.specs.declared.Step.the-variants.{Next, Refused}
@@ -22,9 +22,10 @@ use Rattle.contents.specs.Content.{Check, fine, wrong, judge}
 use Rattle.contents.specs.Rules.{onlyRule}
 use Rattle.contents.specs.Leaves.{boolean}
 use Rattle.contents.specs.Laws.Leaves.{by-judge}
-use Rattle.layouts.specs.Layout.{Item, leaf, node, list, wrap, Members, end, _▸_, Member, known, one, maybe, flag, choose, tagOf, Value, Part, encode, encodePart}
+use Rattle.layouts.specs.Layout.{Item, leaf, node, list, wrap, Members, end, _▸_, Member, known, one, maybe, flag, choose, tagOf, Value, Values, Part, encode, encodePart}
+use Rattle.layouts.specs.Whole.{sequence, recordAt, accept}
 use Rattle.layouts.specs.Reading.{next, readBy, begins, finish, many, readOption, readFlag, readEither, read, reads, readPart}
-use Rattle.layouts.specs.Scan.{thenSeen, thenStep, judgeAt, thenJudge, ruleAt, beginsAt, closeAt, scanMany, scan, scans, scanPart}
+use Rattle.layouts.specs.Scan.{thenSeen, thenStep, judgeAt, thenJudge, ruleAt, beginsAt, closeAt, scanMany, scan, scans, scanPart, recordScan, wholeScan}
 use Rattle.layouts.specs.Laws.Reading.{backward, backwardPart}
 
 -- ---- windows of a slice
@@ -240,6 +241,38 @@ module _ (s : List ℕ) where
         rw (← b .0, scan-read i (next c) e (b .3) es, scan-read j (next c) e (b .3) es, ← b .1)
         (choose-read (λ x q. read i x q) (λ x q. read j x q) (t (c .0)) (c .0) (c .1) (next c)))
 
+  -- ---- records
+
+  module _ (most : ℕ) (r : Members) (p e : ℕ) (pe : p ≤ e) (es : e ≤ length s) where
+    outermost-parts : (c : Cut) → outermost most sequence (slice p e s) p ≡ good c → Parts p e c
+    outermost-parts c h = head-parts sequence p e pe es c (outermost-back most sequence (slice p e s) p c h .0)
+
+    pub record-read : recordScan most r s p e ≡ step (recordAt most r (slice p e s) p)
+    unfolding recordScan recordAt outermostAt
+    record-read =
+        seen-bind (λ x. x .2) _ _ _ λ c h.
+        let b = outermost-parts c h in
+        let d : c .2 ≤ next c = omega arith in
+        let d′ : next c ≤ length s = omega arith in
+        rw (scans-read r (c .2) (next c) d d′, ← b .0) (out-map (λ x. next c) (λ x. x .2) _ _ λ v. refl)
+
+    record-on : (x : Got (Values r)) → recordAt most r (slice p e s) p ≡ good x → (x .1 ≡ slice (x .2) e s) × (x .2 ≤ e)
+    unfolding recordAt
+    record-on x h =
+        by-bind _ _ _ h λ c e₁ e₂.
+        by-bind _ _ _ e₂ λ v e₃ e₄.
+        let b = outermost-parts c e₁ in
+        rw (← good-inj e₄) (b .1, b .3)
+
 -- a whole slice
+pub whole-accept : (most : ℕ) (r : Members) (s : List ℕ) → wholeScan most r s ≡ whole (length s) (accept most r s)
+unfolding wholeScan accept
+whole-accept most r s =
+    let w : slice 0 (length s) s ≡ s = take-length s in
+    rw (record-read s most r 0 (length s) (omega arith) (omega arith), w)
+    (out-bind (λ x. x .2) (λ x. length s) _ _ _ λ a g.
+    let o = record-on s most r 0 (length s) (omega arith) (omega arith) a (rw w g) in
+    rw (close-agree s (a .2) (length s) (o .1) (omega arith), ← o .0) (out-map (λ x. length s) (λ x. length s) _ _ λ u. refl))
+
 pub scan-whole : (i : Item) (s : List ℕ) → scan i s 0 (length s) ≡ step (read i s 0)
 scan-whole i s = scan-read s i 0 (length s) (omega arith) (omega arith) ∙ ap (λ (w : List ℕ). step (read i w 0)) (take-length s)

@@ -1,0 +1,46 @@
+-- `leaves::known`: the head, then the rule of the known content.
+use Rattle.leaves.specs.Laws.{rule-refused, rule-judged}
+use borrow.Author.Needs.{needs}
+use Rattle.leaves.proofs.known.Statement.{statement}
+use Rattle.leaves.proofs.known.Tie as tie
+use Rattle.items.proofs.head.Reads as head-reads
+use Rattle.leaves.proofs.judged.Reads as judged-reads
+use Rattle.leaves.proofs.word_rule.Reads as word-rule-reads
+use Rattle.leaves.proofs.word_tag.Reads as word-tag-reads
+
+word-tag-requires : tie.Need-word-tag-requires
+word-tag-requires c κs = search needs
+
+head-requires : tie.Need-head-requires
+head-requires c κs = search needs
+
+enum-known-h : tie.Need-enum-known-h
+enum-known-h c = search needs
+
+enum-told : tie.Need-enum-told
+enum-told c = search needs
+
+returns : tie.Need-returns
+returns c = search (needs, rule-refused)
+
+word-rule-requires : tie.Need-word-rule-requires
+word-rule-requires c κs = search needs
+
+judged-requires : tie.Need-judged-requires
+judged-requires c κs = search needs
+
+returns-2 : tie.Need-returns-2
+returns-2 c = search (needs, rule-judged)
+
+pub known-spec : {M : Type 1} → statement M
+known-spec =
+    tie.close
+    (tie.spec
+    word-tag-requires
+    head-requires
+    enum-known-h
+    enum-told
+    returns
+    word-rule-requires
+    judged-requires
+    returns-2)

@@ -1,0 +1,46 @@
+-- `leaves::leaf`: the head, then the rule of the form.
+use Rattle.leaves.specs.Laws.{rule-refused, rule-judged}
+use borrow.Author.Needs.{needs}
+use Rattle.leaves.proofs.leaf.Statement.{statement}
+use Rattle.leaves.proofs.leaf.Tie as tie
+use Rattle.items.proofs.head.Reads as head-reads
+use Rattle.leaves.proofs.judged.Reads as judged-reads
+use Rattle.leaves.proofs.rule.Reads as rule-reads
+use Rattle.tables.proofs.tag_of_form.Reads as tag-of-form-reads
+
+tag-of-form-requires : tie.Need-tag-of-form-requires
+tag-of-form-requires c κs = search needs
+
+head-requires : tie.Need-head-requires
+head-requires c κs = search needs
+
+enum-known-h : tie.Need-enum-known-h
+enum-known-h c = search needs
+
+enum-told : tie.Need-enum-told
+enum-told c = search needs
+
+returns : tie.Need-returns
+returns c = search (needs, rule-refused)
+
+rule-requires : tie.Need-rule-requires
+rule-requires c κs = search needs
+
+judged-requires : tie.Need-judged-requires
+judged-requires c κs = search needs
+
+returns-2 : tie.Need-returns-2
+returns-2 c = search (needs, rule-judged)
+
+pub leaf-spec : {M : Type 1} → statement M
+leaf-spec =
+    tie.close
+    (tie.spec
+    tag-of-form-requires
+    head-requires
+    enum-known-h
+    enum-told
+    returns
+    rule-requires
+    judged-requires
+    returns-2)

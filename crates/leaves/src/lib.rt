@@ -1,0 +1,120 @@
+// Primitive items by their form: the head, then the content's rule; and the small questions that a reader of members asks.
+use contents::Checked;
+use heads::Seen;
+use heads::Step;
+use integers::Allowed;
+use items::Tag;
+use tables::Form;
+use tables::Word;
+ghost use mathlib.Core.Path.{_≡_};
+ghost use Rattle.contents.specs.Scan.{checkedAt};
+ghost use Rattle.items.specs.Scan.{tagByte};
+ghost use Rattle.layouts.specs.Scan.{ruleAt, leafAt, beginsAt, closeAt};
+ghost use Rattle.tables.specs.Table.{leafOf};
+ghost use Rattle.leaves.specs.Leaf.{wordTag, wordRule, judgedAt, pastOf};
+
+// A content by the rule of its form.
+fn rule(s: &[u8], f: Form, at: usize, a: usize, z: usize) -> Checked
+    ensures { λ r. ⌜ r ≡ checkedAt (leafOf f .rule) (now (s .entry)) at a z ⌝ }
+{
+    match f {
+        Form::Octets => texts::octets(s, at, a, z, false),
+        Form::AnyOctets => texts::octets(s, at, a, z, true),
+        Form::Bits => texts::bits(s, at, a, z),
+        Form::Ia5 => texts::ia5(s, at, a, z, false),
+        Form::AnyIa5 => texts::ia5(s, at, a, z, true),
+        Form::AnyPrintable => texts::printable(s, at, a, z, true),
+        Form::AnyUtf8 => texts::utf8(s, at, a, z, true),
+        Form::Identifier => texts::identifier(s, at, a, z),
+        Form::Time => times::time(s, at, a, z),
+        Form::Integer => integers::integer(s, at, a, z, Allowed::Any),
+        Form::ListKind => integers::integer(s, at, a, z, Allowed::Kind),
+        Form::Millimetres => integers::integer(s, at, a, z, Allowed::Millimetres),
+        Form::Critical => texts::boolean(s, at, a, z),
+    }
+}
+
+// The tag of a known member.
+fn word_tag(w: Word) -> Tag
+    ensures { λ r. ⌜ tagByte r ≡ wordTag w ⌝ }
+{
+    match w {
+        Word::Es => Tag::Ia5String,
+        Word::Four => Tag::Integer,
+    }
+}
+
+// The content of a known member by its rule.
+fn word_rule(s: &[u8], w: Word, at: usize, a: usize, z: usize) -> Checked
+    ensures { λ r. ⌜ r ≡ checkedAt (wordRule w) (now (s .entry)) at a z ⌝ }
+{
+    match w {
+        Word::Es => texts::header_name(s, at, a, z),
+        Word::Four => integers::version(s, at, a, z),
+    }
+}
+
+// What a content's rule answers, as the item or its refusal.
+fn judged(c: Checked, a: usize, z: usize) -> Seen
+    ensures { λ r. ⌜ r ≡ judgedAt c a z ⌝ }
+{
+    match c {
+        Checked::Fine => Seen::Item(a, z),
+        Checked::Wrong(number, place) => Seen::Refused(number, place),
+    }
+}
+
+// A primitive item: where its content lies, or the refusal of its head or its content.
+pub fn leaf(s: &[u8], f: Form, at: usize, end: usize) -> Seen
+    ensures { λ r. ⌜ r ≡ leafAt (leafOf f) (now (s .entry)) at end ⌝ }
+{
+    let h = items::head(s, tables::tag_of_form(f), at, end);
+    let Seen::Item(a, z) = h else {
+        return h;
+    };
+    judged(rule(s, f, at, a, z), a, z)
+}
+
+// A member whose content is known.
+pub fn known(s: &[u8], w: Word, at: usize, end: usize) -> Seen
+    ensures { λ r. ⌜ r ≡ ruleAt (wordTag w) (wordRule w) (now (s .entry)) at end ⌝ }
+{
+    let h = items::head(s, word_tag(w), at, end);
+    let Seen::Item(a, z) = h else {
+        return h;
+    };
+    judged(word_rule(s, w, at, a, z), a, z)
+}
+
+// Where what follows an item starts, or its refusal.
+pub fn past(x: Seen) -> Step
+    ensures { λ r. ⌜ r ≡ pastOf x ⌝ }
+{
+    match x {
+        Seen::Item(_, z) => Step::Next(z),
+        Seen::Refused(number, place) => Step::Refused(number, place),
+    }
+}
+
+// Whether an item of a tag begins here: its tag alone makes an optional item present.
+pub fn begins(s: &[u8], tag: Tag, at: usize, end: usize) -> bool
+    ensures { λ r. ⌜ r ≡ beginsAt (tagByte tag) (now (s .entry)) at end ⌝ }
+{
+    if end <= at {
+        return false;
+    }
+    if s.len() <= at {
+        return false;
+    }
+    s[at] == items::tag_byte(tag)
+}
+
+// The end of what stands in a tag: 5 at the first byte left over.
+pub fn close(at: usize, end: usize) -> Step
+    ensures { λ r. ⌜ r ≡ closeAt at end ⌝ }
+{
+    if at < end {
+        return Step::Refused(5, at);
+    }
+    Step::Next(end)
+}

@@ -1,0 +1,324 @@
+// The layouts of the rules as a table: a row for each structure, each member with its field's name, in the rules' order.
+use items::Tag;
+use terms::Field;
+ghost use mathlib.Core.Path.{_≡_};
+ghost use Rattle.items.specs.Scan.{tagByte};
+ghost use Rattle.layouts.specs.Layout.{end, tagOf};
+ghost use Rattle.tables.specs.Table.{leafOf, inner, layoutOf, itemOf, membersOf};
+
+// What a primitive item holds; `Any`: it may have no bytes.
+pub enum Form {
+    Octets,
+    AnyOctets,
+    Bits,
+    Ia5,
+    AnyIa5,
+    AnyPrintable,
+    AnyUtf8,
+    Identifier,
+    Time,
+    Integer,
+    ListKind,
+    Millimetres,
+    Critical,
+}
+
+// A member whose content is known: the header's name and the version.
+pub enum Word {
+    Es,
+    Four,
+}
+
+// An item that has a row, stands in a list or stands in a tag of its own.
+pub enum Shape {
+    Signature,
+    SignedPart,
+    Seal,
+    SealInformation,
+    Header,
+    Property,
+    Certificates,
+    Certificate,
+    Digests,
+    Digest,
+    Picture,
+    SealCustomData,
+    SealCustomItem,
+    TaggedCustomData,
+    SignedCustomData,
+    SignedCustomItem,
+    TaggedStamp,
+    Stamp,
+}
+
+// An item's tag, and what stands in it. A list: whether it may be empty, its items' name, and an item.
+pub enum Kind {
+    Leaf(Form),
+    Node(Tag),
+    List(Tag, bool, Field, Shape),
+    Wrap(Tag, Shape),
+}
+
+// What stands next in a row; `Blank` fills it up. `Kinds`: the list kind, which decides between two items of one name.
+pub enum Member {
+    Blank,
+    Known(Word),
+    Leaf(Field, Form),
+    Part(Field, Shape),
+    Maybe(Field, Shape),
+    Flag(Field),
+    Kinds(Field, Field, Shape, Shape),
+}
+
+// The tag of a primitive item.
+pub fn tag_of_form(f: Form) -> Tag
+    ensures { λ r. ⌜ tagByte r ≡ leafOf f .tag ⌝ }
+{
+    match f {
+        Form::Octets => Tag::OctetString,
+        Form::AnyOctets => Tag::OctetString,
+        Form::Bits => Tag::BitString,
+        Form::Ia5 => Tag::Ia5String,
+        Form::AnyIa5 => Tag::Ia5String,
+        Form::AnyPrintable => Tag::PrintableString,
+        Form::AnyUtf8 => Tag::Utf8String,
+        Form::Identifier => Tag::Identifier,
+        Form::Time => Tag::Time,
+        Form::Integer => Tag::Integer,
+        Form::ListKind => Tag::Integer,
+        Form::Millimetres => Tag::Integer,
+        Form::Critical => Tag::Boolean,
+    }
+}
+
+// What kind of item each is.
+pub fn kind_of(x: Shape) -> Kind
+    ensures { λ r. ⌜ layoutOf x ≡ itemOf x r ⌝ }
+{
+    match x {
+        Shape::Signature => Kind::Node(Tag::Sequence),
+        Shape::SignedPart => Kind::Node(Tag::Sequence),
+        Shape::Seal => Kind::Node(Tag::Sequence),
+        Shape::SealInformation => Kind::Node(Tag::Sequence),
+        Shape::Header => Kind::Node(Tag::Sequence),
+        Shape::Property => Kind::Node(Tag::Sequence),
+        Shape::Certificates => Kind::List(
+            Tag::Sequence,
+            false,
+            Field::ListedCertificate,
+            Shape::Certificate,
+        ),
+        Shape::Certificate => Kind::Leaf(Form::Octets),
+        Shape::Digests => Kind::List(Tag::Sequence, false, Field::ListedEntry, Shape::Digest),
+        Shape::Digest => Kind::Node(Tag::Sequence),
+        Shape::Picture => Kind::Node(Tag::Sequence),
+        Shape::SealCustomData => Kind::List(
+            Tag::Sequence,
+            true,
+            Field::SealCustomItem,
+            Shape::SealCustomItem,
+        ),
+        Shape::SealCustomItem => Kind::Node(Tag::Sequence),
+        Shape::TaggedCustomData => Kind::Wrap(Tag::Context0, Shape::SignedCustomData),
+        Shape::SignedCustomData => Kind::List(
+            Tag::Sequence,
+            true,
+            Field::SignedCustomItem,
+            Shape::SignedCustomItem,
+        ),
+        Shape::SignedCustomItem => Kind::Node(Tag::Sequence),
+        Shape::TaggedStamp => Kind::Wrap(Tag::Context0, Shape::Stamp),
+        Shape::Stamp => Kind::Leaf(Form::Bits),
+    }
+}
+
+// The tag that an item begins with.
+pub fn tag_of(x: Shape) -> Tag
+    ensures { λ r. ⌜ tagByte r ≡ tagOf (layoutOf x) ⌝ }
+{
+    let k = kind_of(x);
+    match k {
+        Kind::Leaf(f) => tag_of_form(f),
+        Kind::Node(t) => t,
+        Kind::List(t, _, _, _) => t,
+        Kind::Wrap(t, _) => t,
+    }
+}
+
+// The signature record: signed part; signer certificate; algorithm; signature; stamp.
+fn signature() -> [Member; 6]
+    ensures { λ r. ⌜ inner (layoutOf Shape.Signature) ≡ membersOf r ⌝ }
+{
+    [
+        Member::Part(Field::SignedPart, Shape::SignedPart),
+        Member::Leaf(Field::SignerCertificate, Form::Octets),
+        Member::Leaf(Field::SignatureAlgorithm, Form::Identifier),
+        Member::Leaf(Field::SignatureValue, Form::Bits),
+        Member::Maybe(Field::Stamp, Shape::TaggedStamp),
+        Member::Blank,
+    ]
+}
+
+// The signed part: 4; seal; signing time; original digest; property text; custom data.
+fn signed_part() -> [Member; 6]
+    ensures { λ r. ⌜ inner (layoutOf Shape.SignedPart) ≡ membersOf r ⌝ }
+{
+    [
+        Member::Known(Word::Four),
+        Member::Part(Field::Seal, Shape::Seal),
+        Member::Leaf(Field::SigningTime, Form::Time),
+        Member::Leaf(Field::OriginalDigest, Form::Bits),
+        Member::Leaf(Field::PropertyText, Form::Ia5),
+        Member::Maybe(Field::SignedCustomData, Shape::TaggedCustomData),
+    ]
+}
+
+// The seal: seal information; maker certificate; algorithm; signed value.
+fn seal() -> [Member; 6]
+    ensures { λ r. ⌜ inner (layoutOf Shape.Seal) ≡ membersOf r ⌝ }
+{
+    [
+        Member::Part(Field::SealInformation, Shape::SealInformation),
+        Member::Leaf(Field::MakerCertificate, Form::Octets),
+        Member::Leaf(Field::SealAlgorithm, Form::Identifier),
+        Member::Leaf(Field::SealSignedValue, Form::Bits),
+        Member::Blank,
+        Member::Blank,
+    ]
+}
+
+// Seal information: header; seal id; property; picture; custom data.
+fn seal_information() -> [Member; 6]
+    ensures { λ r. ⌜ inner (layoutOf Shape.SealInformation) ≡ membersOf r ⌝ }
+{
+    [
+        Member::Part(Field::Header, Shape::Header),
+        Member::Leaf(Field::SealId, Form::Ia5),
+        Member::Part(Field::Property, Shape::Property),
+        Member::Part(Field::Picture, Shape::Picture),
+        Member::Maybe(Field::SealCustomData, Shape::SealCustomData),
+        Member::Blank,
+    ]
+}
+
+// The header: "ES"; 4; vendor.
+fn header() -> [Member; 6]
+    ensures { λ r. ⌜ inner (layoutOf Shape.Header) ≡ membersOf r ⌝ }
+{
+    [
+        Member::Known(Word::Es),
+        Member::Known(Word::Four),
+        Member::Leaf(Field::Vendor, Form::AnyIa5),
+        Member::Blank,
+        Member::Blank,
+        Member::Blank,
+    ]
+}
+
+// The property: type; name; list kind and certificate list; created, start and end.
+fn property() -> [Member; 6]
+    ensures { λ r. ⌜ inner (layoutOf Shape.Property) ≡ membersOf r ⌝ }
+{
+    [
+        Member::Leaf(Field::SealType, Form::Integer),
+        Member::Leaf(Field::SealName, Form::AnyUtf8),
+        Member::Kinds(
+            Field::ListKind,
+            Field::CertificateList,
+            Shape::Certificates,
+            Shape::Digests,
+        ),
+        Member::Leaf(Field::Created, Form::Time),
+        Member::Leaf(Field::Start, Form::Time),
+        Member::Leaf(Field::End, Form::Time),
+    ]
+}
+
+// An entry of a kind 2 list: a name and a digest.
+fn digest() -> [Member; 6]
+    ensures { λ r. ⌜ inner (layoutOf Shape.Digest) ≡ membersOf r ⌝ }
+{
+    [
+        Member::Leaf(Field::ListedName, Form::AnyPrintable),
+        Member::Leaf(Field::ListedDigest, Form::Octets),
+        Member::Blank,
+        Member::Blank,
+        Member::Blank,
+        Member::Blank,
+    ]
+}
+
+// The picture: type; data; width and height.
+fn picture() -> [Member; 6]
+    ensures { λ r. ⌜ inner (layoutOf Shape.Picture) ≡ membersOf r ⌝ }
+{
+    [
+        Member::Leaf(Field::PictureType, Form::Ia5),
+        Member::Leaf(Field::PictureData, Form::Octets),
+        Member::Leaf(Field::Width, Form::Millimetres),
+        Member::Leaf(Field::Height, Form::Millimetres),
+        Member::Blank,
+        Member::Blank,
+    ]
+}
+
+// A custom item of a seal: identifier; critical; value.
+fn seal_custom_item() -> [Member; 6]
+    ensures { λ r. ⌜ inner (layoutOf Shape.SealCustomItem) ≡ membersOf r ⌝ }
+{
+    [
+        Member::Leaf(Field::SealCustomId, Form::Identifier),
+        Member::Flag(Field::SealCustomCritical),
+        Member::Leaf(Field::SealCustomValue, Form::AnyOctets),
+        Member::Blank,
+        Member::Blank,
+        Member::Blank,
+    ]
+}
+
+// A custom item of a signed part: identifier; critical; value.
+fn signed_custom_item() -> [Member; 6]
+    ensures { λ r. ⌜ inner (layoutOf Shape.SignedCustomItem) ≡ membersOf r ⌝ }
+{
+    [
+        Member::Leaf(Field::SignedCustomId, Form::Identifier),
+        Member::Flag(Field::SignedCustomCritical),
+        Member::Leaf(Field::SignedCustomValue, Form::AnyOctets),
+        Member::Blank,
+        Member::Blank,
+        Member::Blank,
+    ]
+}
+
+// The row of an item that has no members.
+fn nothing() -> [Member; 6]
+    ensures { λ r. ⌜ end ≡ membersOf r ⌝ }
+{
+    [Member::Blank; 6]
+}
+
+// The row of an item.
+pub fn members_of(x: Shape) -> [Member; 6]
+    ensures { λ r. ⌜ inner (layoutOf x) ≡ membersOf r ⌝ }
+{
+    match x {
+        Shape::Signature => signature(),
+        Shape::SignedPart => signed_part(),
+        Shape::Seal => seal(),
+        Shape::SealInformation => seal_information(),
+        Shape::Header => header(),
+        Shape::Property => property(),
+        Shape::Certificates => nothing(),
+        Shape::Certificate => nothing(),
+        Shape::Digests => nothing(),
+        Shape::Digest => digest(),
+        Shape::Picture => picture(),
+        Shape::SealCustomData => nothing(),
+        Shape::SealCustomItem => seal_custom_item(),
+        Shape::TaggedCustomData => nothing(),
+        Shape::SignedCustomData => nothing(),
+        Shape::SignedCustomItem => signed_custom_item(),
+        Shape::TaggedStamp => nothing(),
+        Shape::Stamp => nothing(),
+    }
+}
