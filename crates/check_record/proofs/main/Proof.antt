@@ -1,0 +1,62 @@
+-- `check_record::main`: what was filled is a part of the input.
+use Rattle.check_record.specs.Laws.{counted}
+use borrow.Author.Needs.{needs}
+use Rattle.check_record.proofs.main.Statement.{statement}
+use Rattle.check_record.proofs.main.Tie as tie
+use Rattle.check_record.proofs.fill.Reads as fill-reads
+use Rattle.check_record.proofs.print.Reads as print-reads
+use Rattle.os.proofs.fail.Reads as fail-reads
+use Rattle.readers.proofs.read_signature.Reads as read-signature-reads
+
+slice-aggregate-fill : tie.Need-slice-aggregate-fill
+slice-aggregate-fill c = search needs
+
+fill-requires : tie.Need-fill-requires
+fill-requires c κs = search needs
+
+enum-known-n : tie.Need-enum-known-n
+enum-known-n c = search needs
+
+enum-told : tie.Need-enum-told
+enum-told c = search needs
+
+slice-aggregate-fail : tie.Need-slice-aggregate-fail
+slice-aggregate-fail c = search needs
+
+fail-requires : tie.Need-fail-requires
+fail-requires c κs = search needs
+
+returns : tie.Need-returns
+returns c = search needs
+
+array-share-prefix-input : tie.Need-array-share-prefix-input
+array-share-prefix-input c = let m = counted _ _ _ (c .before .n .given .1) (c .before .before .before .before .fill .ensures) in search needs
+
+slice-aggregate-read-signature : tie.Need-slice-aggregate-read-signature
+slice-aggregate-read-signature c = let m = counted _ _ _ (c .before .before .n .given .1) (c .before .before .before .before .before .fill .ensures) in search needs
+
+read-signature-requires : tie.Need-read-signature-requires
+read-signature-requires c κs = search needs
+
+print-requires : tie.Need-print-requires
+print-requires c κs = search needs
+
+returns-2 : tie.Need-returns-2
+returns-2 c = search needs
+
+pub main-spec : {M : Type 1} → statement M
+main-spec =
+    tie.close
+    (tie.spec
+    slice-aggregate-fill
+    fill-requires
+    enum-known-n
+    enum-told
+    slice-aggregate-fail
+    fail-requires
+    returns
+    array-share-prefix-input
+    slice-aggregate-read-signature
+    read-signature-requires
+    print-requires
+    returns-2)
