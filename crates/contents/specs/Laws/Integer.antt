@@ -4,8 +4,7 @@ use Prim.Native.Nat.{ℕ, suc, zero, _+_, _-_, _*_, _/_, _%_, _^_, _≤_, _<_}
 use native.Mathlib.Omega.{arith}
 use mathlib.Core.Option.{none, some}
 use mathlib.Core.List.{List, [], _∷_, _++_}
-use lib.Seq.{drop-at}
-use lib.ListN.{length, drop, replicate, length-append, length-replicate}
+use lib.ListN.{length, replicate, length-append, length-replicate}
 use lib.Dec.{T, leb, ltb, eqb, eqb→eq, eqb-refl, ltb→lt, leb→le, le→leb, lt→ltb, nltb→le}
 use borrow.Author.Tests.{lt-ltb, le-ltb}
 use lib.IntN.{ℤ, pos, negsuc}
@@ -13,7 +12,7 @@ use Rattle.terms.specs.Answer.{pick, every}
 use Rattle.terms.specs.Digits.{digits, number, numberFrom, isByte}
 use Rattle.terms.specs.Laws.Answer.{test, and-l, and-r, both, pick-yes, pick-no}
 use Rattle.terms.specs.Laws.Digits.{number-of-digits, digits-number, length-digits, digits-small, number-small, number-split}
-use Rattle.contents.specs.Integer.{sign, shortest, widest, section-bytes, wellFormed, turned, value, eight, shrink, contentOf, signOf, stretch, unstretch, Fits}
+use Rattle.contents.specs.Integer.{sign, shortest, widest, wellFormed, turned, value, eight, shrink, contentOf, signOf, stretch, unstretch, Fits}
 
 -- ---- a content and its eight bytes
 
@@ -235,15 +234,6 @@ contentOf-wellFormed z =
     some-shortest : (x : List ℕ) → 1 ≤ length x → T (shortest (shrink x))
     some-shortest [] h = let y : ⊥ = omega arith in absurd y
     some-shortest (a ∷ x) h = shrink-shortest a x
-
--- a number's content is the end of its eight bytes
-pub contentOf-end : (z : ℤ) → drop (section-bytes - length (contentOf z)) (eight z) ≡ contentOf z
-unfolding contentOf
-contentOf-end z =
-    let n = length-eight z in
-    let k : ℕ = length (eight z) - length (shrink (eight z)) in
-    let e : section-bytes - length (shrink (eight z)) ≡ k = omega arith in
-    rw e (sym (ap (drop k) (shrink-back (eight z))) ∙ drop-at (replicate k (signOf (eight z))) (shrink (eight z)) k (length-replicate k (signOf (eight z))))
 
 -- the number of the content of a number, for every number that eight bytes hold
 pub value-contentOf : (z : ℤ) → Fits z → value (contentOf z) ≡ z

@@ -40,10 +40,6 @@ plain-back x c h = cc
 pub plain-near : (c : List ℕ) → length c ≤ 8 + length c
 plain-near c = omega arith
 
--- what is handed out of a string is the bytes that its section has
-pub plain-shown : (c : List ℕ) → drop 0 c ≡ c
-plain-shown c = refl
-
 -- ---- an integer's
 
 pub integer-there : (p : ℤ → Bool) (c : List ℕ) → integerRule p c ≡ fine → unstretch (stretch c) ≡ some c

@@ -10,7 +10,7 @@ use lib.ListN.{length, getD, drop, drop-of-length-le, length-drop}
 use lib.Seq.{slice, drop-cons}
 use lib.Signed.{leZ, ltZ, mag}
 use lib.IntN.{ℤ, pos, negsuc, _-ℤ_}
-use lib.Dec.{T, leb, ltb, eqb}
+use lib.Dec.{T, eqb}
 use mir.Syntax.{w64}
 use mir.Val.{toZ, ofZ, SFits}
 use mir.Facts.{toZ-pos, toZ-ofZ}
@@ -343,9 +343,6 @@ module _ (x : List ℕ) where
       rw (a, b)
 
   -- what is left from here on is the whole answer
-  pub shrink-starts : shrink x ≡ shrink (drop 0 x)
-  shrink-starts = refl
-
   pub shrink-on : (i : ℕ) (t : Bool) → i + 1 < length x → shrink x ≡ shrink (drop i x) → t ≡ not (eqb (getD x i 0) (sign (getD x (i + 1) 0))) → t ≡ false → shrink x ≡ shrink (drop (i + 1) x)
   unfolding pick
   shrink-on i t h e f g = e ∙ shrink-at i h ∙ rw (not-false (eqb (getD x i 0) (sign (getD x (i + 1) 0))) (sym f ∙ g))

@@ -96,10 +96,6 @@ leading-2-none : (w : List ℕ) → length w < 2 → leading 2 w ≡ none
 unfolding leading
 leading-2-none w h = rw (lt-leb 2 (length w) h) (pick-no _ _ _ tt)
 
--- the bytes of a head
-before-short : (n : ℕ) → n < 128 → before n ≡ 2
-before-short n h = rw (octets-below n h)
-
 octets-one : (n : ℕ) → 128 ≤ n → n < 256 → octets n ≡ 0x81 ∷ n ∷ []
 unfolding octets spell
 octets-one n h k = pick-no (ltb n 128) _ _ (rw (le-ltb n 128 h) tt) ∙ pick-yes (ltb n 256) _ _ (lt→ltb n 256 k) ∙ rw (digits-1 n k)

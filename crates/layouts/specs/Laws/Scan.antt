@@ -273,6 +273,3 @@ whole-accept most r s =
     (out-bind (λ x. x .2) (λ x. length s) _ _ _ λ a g.
     let o = record-on s most r 0 (length s) (omega arith) (omega arith) a (rw w g) in
     rw (close-agree s (a .2) (length s) (o .1) (omega arith), ← o .0) (out-map (λ x. length s) (λ x. length s) _ _ λ u. refl))
-
-pub scan-whole : (i : Item) (s : List ℕ) → scan i s 0 (length s) ≡ step (read i s 0)
-scan-whole i s = scan-read s i 0 (length s) (omega arith) (omega arith) ∙ ap (λ (w : List ℕ). step (read i w 0)) (take-length s)

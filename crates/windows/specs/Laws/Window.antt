@@ -1,10 +1,10 @@
--- A window up to an end past the slice is the window up to the slice's end; windows byte by byte, and as code cuts them. Assumes nothing.
+-- A window up to an end past the slice is the window up to the slice's end; windows byte by byte. Assumes nothing.
 use mathlib.Core.Path.{_≡_, sym, ap, _∙_}
-use Prim.Native.Nat.{ℕ, suc, _+_, _-_, _≤_, _<_}
+use Prim.Native.Nat.{ℕ, suc, _+_, _≤_, _<_}
 use native.Mathlib.Omega.{arith}
 use mathlib.Core.List.{List, [], _∷_}
 use lib.ListN.{length, getD, take, drop, length-take, drop-of-length-le}
-use lib.Seq.{slice, slice-cons, take-all, take-length, take-add, drop-at, length-take-le}
+use lib.Seq.{slice, slice-cons, take-all, take-length}
 use lib.Dec.{ltb, ltb→lt, nltb→le, lt→ltb}
 use borrow.Author.Tests.{le-ltb}
 use Rattle.terms.specs.Laws.Answer.{test, pick-yes, pick-no}
@@ -42,10 +42,3 @@ byte-at s q e h k = let f : q + 1 ≡ suc q = omega arith in rw f (slice-cons q 
 
 pub nothing-at : (s : List ℕ) (q e : ℕ) → e ≤ q → slice q e s ≡ []
 nothing-at s q e h = drop-of-length-le (take e s) {i = q} (let l = length-take e s in omega arith)
-
--- ---- a part of a slice, as code cuts it
-
-pub part-slice : (a z : ℕ) (s : List ℕ) → a ≤ z → z ≤ length s → take (z - a) (drop a s) ≡ slice a z s
-part-slice a z s h k =
-    let q : a + (z - a) ≡ z = omega arith in
-    sym (ap (drop a) (take-add a (z - a) s) ∙ drop-at (take a s) (take (z - a) (drop a s)) a (length-take-le a s (omega arith))) ∙ ap (λ (n : ℕ). drop a (take n s)) q
