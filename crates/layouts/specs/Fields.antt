@@ -15,15 +15,19 @@ use Rattle.heads.specs.Head.{tlv, before}
 use Rattle.contents.specs.Rules.{yes-byte}
 use Rattle.layouts.specs.Layout.{Item, leaf, node, list, wrap, Members, end, _▸_, Member, known, one, maybe, flag, choose, Value, Values, Part, each, encode, encodes, encodePart}
 
--- a field: its name, its index in a list, the offset of its bytes in the record, and its bytes
+-- a field: its name, its index in a list, the offset of its bytes in the record, its bytes, and of a list the number of its items
 pub record Entry : Type 0 where
   pub name : Field
   pub index : ℕ
   pub place : ℕ
   pub bytes : List ℕ
+  pub items : ℕ
+
+abbrev pub listed : Field → ℕ → ℕ → List ℕ → ℕ → Entry
+listed f k b x n = record { name = f; index = k; place = b; bytes = x; items = n }
 
 abbrev pub entry : Field → ℕ → ℕ → List ℕ → Entry
-entry f k b x = record { name = f; index = k; place = b; bytes = x }
+entry f k b x = listed f k b x 0
 
 -- the items of a list, from index `k` on
 unfoldable pub eachFields : {A : Type 0} → (ℕ → A → ℕ → List Entry) → (A → List ℕ) → ℕ → List A → ℕ → List Entry
@@ -43,14 +47,15 @@ unfoldable pub flagFields : Field → ℕ → Bool → ℕ → List Entry
 flagFields f k true b = entry f k (b + before 1) yes-byte ∷ []
 flagFields f k false b = []
 
--- an item's fields, where it stands at `b` under the name `f` and the index `k`; of an item with parts the whole item is one
+-- an item's fields, where it stands at `b` under the name `f` and the index `k`; of an item with parts the whole item is one.
+-- A list stands after its items.
 unfoldable mutual
   pub itemFields : (i : Item) → Field → ℕ → Value i → ℕ → List Entry
   itemFields (leaf l) f k c b = entry f k (b + before (length c) + l .hidden) (drop (l .hidden) c) ∷ []
   itemFields (node t r) f k v b = entry f k b (tlv t (encodes r v)) ∷ runFields r k v (b + before (length (encodes r v)))
   itemFields (list t e n g i) f k vs b =
-      entry f k b (tlv t (each (λ v. encode i v) vs))
-      ∷ eachFields (λ j v p. itemFields i g j v p) (λ v. encode i v) 0 vs (b + before (length (each (λ v. encode i v) vs)))
+      eachFields (λ j v p. itemFields i g j v p) (λ v. encode i v) 0 vs (b + before (length (each (λ v. encode i v) vs)))
+      ++ listed f k b (tlv t (each (λ v. encode i v) vs)) (length vs) ∷ []
   itemFields (wrap t i) f k v b = itemFields i f k v (b + before (length (encode i v)))
 
   pub runFields : (r : Members) → ℕ → Values r → ℕ → List Entry
@@ -83,10 +88,6 @@ isField f k x = sameName f (x .name) && eqb k (x .index)
 unfoldable pub first : (Entry → Bool) → List Entry → Option Entry
 first p [] = none
 first p (x ∷ xs) = pick (p x) (some x) (first p xs)
-
-unfoldable pub count : (Entry → Bool) → List Entry → ℕ
-count p [] = 0
-count p (x ∷ xs) = pick (p x) (suc (count p xs)) (count p xs)
 
 unfoldable pub bytesIn : Option Entry → List ℕ
 bytesIn none = []

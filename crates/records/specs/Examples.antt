@@ -24,14 +24,13 @@ use Rattle.layouts.specs.Reading.{readBy, begins, finish, many, readOption, rea
 use Rattle.layouts.specs.Sheet.{count, section, bit, sheetOption, sheetList, sheet, readCount, readSection, fillLeaf, times, unbit, fillFlag, fillOption, fillList, fill}
 use Rattle.layouts.specs.Whole.{recordAt, accept, finishSheet, acceptSheet, fit, fillSheet, writeRecord}
 use Rattle.layouts.specs.Fields.{Entry, eachFields, optionFields, eitherFields, flagFields, itemFields, fields, isField, first, bytesIn, isThere}
-use Rattle.layouts.specs.Fields as Fields
 use Rattle.records.specs.Record.{seal, signature}
-use Rattle.records.specs.Handing.{readSignature, recordAnswer, fillAnswer, writeAnswer, fieldAnswer, isListed, matchAnswer, isOneOf, valueAnswer, criticalAnswer, isItemOf, countAnswer}
+use Rattle.records.specs.Handing.{readSignature, recordAnswer, fillAnswer, writeAnswer, fieldAnswer, isListed, matchAnswer, isOneOf, valueAnswer, criticalAnswer, countAnswer}
 use Rattle.records.specs.Samples.{recordS, recordD}
 
 -- to name this one on a line is to name all that a reading, a sheet and a handing out compute with
 unfoldable pub evaluate : Unit {0}
-unfolding code sameName pick bind need have every enough same digits numberFrom leading spell octets tlv unspell size opening cut head outermost ask passes placeOf judge sign shortest wellFormed turned value shrink signOf stretch unstretch within starts follows textFrom partsFrom isIdentifier leap monthLength possible isDigit partFrom zulu timeFrom timeCheck timeRule integerRule stringRule octetsRule bitsRule identifierRule booleanRule also onlyRule each option either critical encode readBy begins finish many readOption readFlag readEither read count section bit sheetOption sheetList sheet readCount readSection fillLeaf times unbit fillFlag fillOption fillList fill recordAt accept finishSheet acceptSheet fit fillSheet writeRecord eachFields optionFields eitherFields flagFields itemFields fields isField first Fields.count bytesIn isThere recordAnswer fillAnswer writeAnswer fieldAnswer isListed matchAnswer isOneOf valueAnswer criticalAnswer isItemOf countAnswer sameWhole sameWholes sameTold agree
+unfolding code sameName pick bind need have every enough same digits numberFrom leading spell octets tlv unspell size opening cut head outermost ask passes placeOf judge sign shortest wellFormed turned value shrink signOf stretch unstretch within starts follows textFrom partsFrom isIdentifier leap monthLength possible isDigit partFrom zulu timeFrom timeCheck timeRule integerRule stringRule octetsRule bitsRule identifierRule booleanRule also onlyRule each option either critical encode readBy begins finish many readOption readFlag readEither read count section bit sheetOption sheetList sheet readCount readSection fillLeaf times unbit fillFlag fillOption fillList fill recordAt accept finishSheet acceptSheet fit fillSheet writeRecord eachFields optionFields eitherFields flagFields itemFields fields isField first bytesIn isThere recordAnswer fillAnswer writeAnswer fieldAnswer isListed matchAnswer isOneOf valueAnswer criticalAnswer countAnswer sameWhole sameWholes sameTold agree
 evaluate = tt
 
 abbrev at : ℕ → ℕ → Told

@@ -12,7 +12,7 @@ use Rattle.terms.specs.Answer.{Res, good, fault, pick, same, bit, Told, gives, 
 use Rattle.contents.specs.Integer.{value}
 use Rattle.layouts.specs.Layout.{Members, Values}
 use Rattle.layouts.specs.Whole.{accept, fillSheet, writeRecord, stored}
-use Rattle.layouts.specs.Fields.{Entry, fields, isField, first, count, isThere, bytesIn}
+use Rattle.layouts.specs.Fields.{Entry, fields, isField, first, isThere, bytesIn}
 use Rattle.records.specs.Record.{sealInformation, seal, signedPart, signature}
 use Rattle.records.specs.declared.Part.{Part}
 use Rattle.records.specs.declared.Part.the-variants.{There, Absent as NoPart, Refused as PartRefused}
@@ -113,20 +113,17 @@ toldCritical (some g) f k xs = pick (isThere (first (isField g k) xs)) (told-one
 unfoldable pub criticalAnswer : Members → Field → ℕ → List ℕ → Told
 criticalAnswer r f k w = asked (readRecord r w) λ v. toldCritical (ownerOf f) f k (fields r v)
 
--- whether a name is that of an item of the list
-unfoldable pub isItemOf : Field → Field → Bool
-isItemOf f g =
-    (sameName CertificateList f && (sameName ListedCertificate g || sameName ListedEntry g))
-    || ((sameName SealCustomData f && sameName SealCustomItem g) || (sameName SignedCustomData f && sameName SignedCustomItem g))
-
 abbrev listNames : List Field
 listNames = CertificateList ∷ SealCustomData ∷ SignedCustomData ∷ []
 
+abbrev toldCount : Bool → Option Entry → Told
+toldCount false x = told-none absent
+toldCount true none = told-none absent
+toldCount true (some x) = told-one done (x .items)
+
 -- "Absent and present-with-no-items are different field values."
 unfoldable pub countAnswer : Members → Field → List ℕ → Told
-countAnswer r f w =
-    asked (readRecord r w) λ v.
-    pick (isOneOf listNames f && isThere (first (isField f 0) (fields r v))) (told-one done (count (λ x. isItemOf f (x .name)) (fields r v))) (told-none absent)
+countAnswer r f w = asked (readRecord r w) λ v. toldCount (isOneOf listNames f) (first (isField f 0) (fields r v))
 
 -- ---- signed bytes
 

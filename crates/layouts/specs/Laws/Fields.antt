@@ -91,10 +91,9 @@ module _ (s : List ℕ) where
         (stands-after s p (tlv t (encodes r v)) z (length p) q refl, rw (n .1) at (run-placed r k v (p ++ (t ∷ octets (length (encodes r v)))) z (n .0)))
     item-placed (list t e m g i) f k vs p z q =
         let c : List ℕ = each (λ v. encode i v) vs in
-        let n = inside s p z t c q in (
-          stands-after s p (tlv t c) z (length p) q refl,
-          rw (n .1) at (each-placed s (λ v. encode i v) (λ j v b. itemFields i g j v b) (λ j v p z q. item-placed i g j v p z q) 0 vs (p ++ (t ∷ octets (length c))) z (n .0)),
-        )
+        let n = inside s p z t c q in
+        let u = each-placed s (λ v. encode i v) (λ j v b. itemFields i g j v b) (λ j v p z q. item-placed i g j v p z q) 0 vs (p ++ (t ∷ octets (length c))) z (n .0) in
+        all-append (Stands s) (eachFields (λ j v b. itemFields i g j v b) (λ v. encode i v) 0 vs (length p + before (length c))) _ (rw (n .1) at u) (stands-after s p (tlv t c) z (length p) q refl, tt)
     item-placed (wrap t i) f k v p z q =
         let n = inside s p z t (encode i v) q in
         rw (n .1) at (item-placed i f k v (p ++ (t ∷ octets (length (encode i v)))) z (n .0))
