@@ -1,0 +1,104 @@
+-- The names in their order, and the steps of noting a field. Assumes nothing.
+use mathlib.Core.Path.{_≡_, refl, sym, ap, _∙_}
+use Prim.Native.Nat.{ℕ, suc, zero, _+_, _-_, _*_, _<_, _≤_}
+use native.Mathlib.Omega.{arith}
+use mathlib.Core.Bool.{Bool, true, false, _&&_, not}
+use mathlib.Core.List.{List, [], _∷_, map}
+use lib.ListN.{length, getD, set, List·getD-map}
+use lib.Dec.{eqb, ltb, ltb→lt}
+use borrow.Author.Tests.{ne-eqb, lt-ltb, le-ltb}
+use Rattle.terms.specs.declared.Field.{Field}
+use Rattle.terms.specs.declared.Field.the-variants.{SealInformation, Header, Vendor, SealId, Property, SealType, SealName, ListKind, CertificateList, ListedCertificate, ListedEntry, ListedName, ListedDigest, Created, Start, End, Picture, PictureType, PictureData, Width, Height, SealCustomData, SealCustomItem, SealCustomId, SealCustomCritical, SealCustomValue, MakerCertificate, SealAlgorithm, SealSignedValue, SignedPart, Seal, SigningTime, OriginalDigest, PropertyText, SignedCustomData, SignedCustomItem, SignedCustomId, SignedCustomCritical, SignedCustomValue, SignerCertificate, SignatureAlgorithm, SignatureValue, Stamp}
+use Rattle.terms.specs.Names.{code}
+use Rattle.terms.specs.Answer.{pick}
+use Rattle.layouts.specs.Places.{slot, noted}
+
+abbrev names : List Field
+names =
+    SealInformation ∷ Header ∷ Vendor ∷ SealId ∷ Property ∷ SealType ∷ SealName ∷ ListKind ∷ CertificateList ∷ ListedCertificate ∷ ListedEntry ∷ ListedName ∷ ListedDigest ∷ Created ∷ Start ∷ End ∷ Picture ∷ PictureType ∷ PictureData ∷ Width ∷ Height ∷ SealCustomData ∷ SealCustomItem ∷ SealCustomId ∷ SealCustomCritical ∷ SealCustomValue ∷ MakerCertificate ∷ SealAlgorithm ∷ SealSignedValue ∷ SignedPart ∷ Seal ∷ SigningTime ∷ OriginalDigest ∷ PropertyText ∷ SignedCustomData ∷ SignedCustomItem ∷ SignedCustomId ∷ SignedCustomCritical ∷ SignedCustomValue ∷ SignerCertificate ∷ SignatureAlgorithm ∷ SignatureValue ∷ Stamp ∷ []
+
+abbrev pub nameOf : ℕ → Field
+nameOf n = getD names n Stamp
+
+-- so many numbers, from one on
+from : ℕ → ℕ → List ℕ
+from a zero = []
+from a (suc n) = a ∷ from (suc a) n
+
+getD-from : (a n k : ℕ) → k < n → getD (from a n) k 42 ≡ a + k
+unfolding from
+getD-from a zero k h = absurd (omega arith)
+getD-from a (suc n) zero h = omega arith
+getD-from a (suc n) (suc k) h = getD-from (suc a) n k (omega arith) ∙ omega arith
+
+in-order : map code names ≡ from 0 43
+unfolding code from
+in-order = refl
+
+last : code Stamp ≡ 42
+unfolding code
+last = refl
+
+-- a name is numbered by its place among them
+code-name : (f : Field) (n : ℕ) → f ≡ nameOf n → n < 43 → code f ≡ n
+code-name f n h k =
+    ap code h ∙ sym (List·getD-map code names n Stamp) ∙ ap (λ (l : List ℕ). getD l n (code Stamp)) in-order ∙ ap (λ (z : ℕ). getD (from 0 43) n z) last
+    ∙ getD-from 0 43 n k ∙ omega arith
+
+pub slot-name : (f : Field) (n r : ℕ) → f ≡ nameOf n → n < 43 → r ≡ 4 * n → r ≡ slot f
+unfolding slot
+slot-name f n r h k q = q ∙ ap (λ (z : ℕ). 4 * z) (sym (code-name f n h k))
+
+-- ---- noting a field
+
+-- a place in a table that is not taken
+unfoldable pub free : List ℕ → ℕ → Bool
+free d n = ltb (n + 3) (length d) && eqb (getD d n 0) 0
+
+abbrev pub filled : List ℕ → ℕ → ℕ → ℕ → ℕ → List ℕ
+filled d n a l i = set (set (set (set d n 1) (n + 1) a) (n + 2) l) (n + 3) i
+
+module _ (f : Field) (k a z i : ℕ) (d : List ℕ) where
+  pub noted-later : (k ≡ 0 → ⊥) → d ≡ noted f k a z i d
+  unfolding noted pick
+  noted-later h = rw (ne-eqb k 0 h)
+
+  module _ (n : ℕ) (b : Bool) (h : k ≡ 0) (q : n ≡ slot f) (e : b ≡ free d n) where
+    pub noted-taken : b ≡ false → d ≡ noted f k a z i d
+    unfolding noted pick free
+    noted-taken g = rw (h, ← q, ← e, g)
+
+    pub noted-free : (x : List ℕ) (l : ℕ) → b ≡ true → l ≡ z - a → x ≡ filled d n a l i → x ≡ noted f k a z i d
+    unfolding noted pick free
+    noted-free x l g m y = rw (h, ← q, ← e, g, ← m) y
+
+-- what is free lies in the table, each of the four numbers
+pub free-in : (d : List ℕ) (n : ℕ) (b : Bool) (j : ℕ) → b ≡ free d n → b ≡ true → j ≤ 3 → n + j < length d
+unfolding free
+free-in d n b j e g h = go (ltb (n + 3) (length d)) _ refl (sym e ∙ g)
+  where
+    go : (x y : Bool) → ltb (n + 3) (length d) ≡ x → x && y ≡ true → n + j < length d
+    go true y q k = let l : n + 3 < length d = ltb→lt (n + 3) (length d) (rw q tt) in omega arith
+    go false y q k = let z : _≡_ {A = ℕ} 0 1 = cc in let w : ⊥ = omega arith in absurd w
+
+pub free-no : (d : List ℕ) (n : ℕ) → length d ≤ n + 3 → false ≡ free d n
+unfolding free
+free-no d n h = rw (le-ltb (n + 3) (length d) h)
+
+pub free-zero : (d : List ℕ) (n : ℕ) → n + 3 < length d → eqb (getD d n 0) 0 ≡ free d n
+unfolding free
+free-zero d n h = rw (lt-ltb (n + 3) (length d) h)
+
+-- past the end of a table stands nothing
+pub getD-past : (d : List ℕ) (n : ℕ) → length d ≤ n → 0 ≡ getD d n 0
+getD-past [] n h = refl
+getD-past (x ∷ d) zero h = absurd (omega arith)
+getD-past (x ∷ d) (suc n) h = getD-past d n (omega arith)
+
+-- what stands under a name, by its slot
+module _ (d : List ℕ) (f : Field) (n x : ℕ) (h : n ≡ slot f) where
+  pub under-there : x ≡ getD d n 0 → not (eqb x 0) ≡ not (eqb (getD d (slot f) 0) 0)
+  under-there e = rw (← h, ← e)
+
+  pub under-number : (j : ℕ) → x ≡ getD d (n + j) 0 → x ≡ getD d (slot f + j) 0
+  under-number j e = rw (← h) e

@@ -1,0 +1,148 @@
+// The table of places: under each name whether the field is there, where it starts, how many bytes it has, and of a list how many items.
+use terms::Field;
+ghost use mathlib.Core.Path.{_≡_};
+ghost use Prim.Native.Nat.{_+_, _-_, _<_};
+ghost use mathlib.Core.Bool.{not};
+ghost use lib.ListN.{getD, length as size};
+ghost use lib.Dec.{eqb};
+ghost use Rattle.layouts.specs.Places.{slot, noted};
+ghost use Rattle.places.specs.Laws.{nameOf, free, filled};
+
+// What stands under a name.
+pub struct Place {
+    there: bool,
+    start: usize,
+    length: usize,
+    items: usize,
+}
+
+// A name's number.
+fn number_of(f: Field) -> usize
+    ensures { λ r. ⌜ (f ≡ nameOf r) × (r < 43) ⌝ }
+{
+    match f {
+        Field::SealInformation => 0,
+        Field::Header => 1,
+        Field::Vendor => 2,
+        Field::SealId => 3,
+        Field::Property => 4,
+        Field::SealType => 5,
+        Field::SealName => 6,
+        Field::ListKind => 7,
+        Field::CertificateList => 8,
+        Field::ListedCertificate => 9,
+        Field::ListedEntry => 10,
+        Field::ListedName => 11,
+        Field::ListedDigest => 12,
+        Field::Created => 13,
+        Field::Start => 14,
+        Field::End => 15,
+        Field::Picture => 16,
+        Field::PictureType => 17,
+        Field::PictureData => 18,
+        Field::Width => 19,
+        Field::Height => 20,
+        Field::SealCustomData => 21,
+        Field::SealCustomItem => 22,
+        Field::SealCustomId => 23,
+        Field::SealCustomCritical => 24,
+        Field::SealCustomValue => 25,
+        Field::MakerCertificate => 26,
+        Field::SealAlgorithm => 27,
+        Field::SealSignedValue => 28,
+        Field::SignedPart => 29,
+        Field::Seal => 30,
+        Field::SigningTime => 31,
+        Field::OriginalDigest => 32,
+        Field::PropertyText => 33,
+        Field::SignedCustomData => 34,
+        Field::SignedCustomItem => 35,
+        Field::SignedCustomId => 36,
+        Field::SignedCustomCritical => 37,
+        Field::SignedCustomValue => 38,
+        Field::SignerCertificate => 39,
+        Field::SignatureAlgorithm => 40,
+        Field::SignatureValue => 41,
+        Field::Stamp => 42,
+    }
+}
+
+// Where a name's four numbers start.
+fn slot_of(f: Field) -> usize
+    ensures { λ r. ⌜ (r ≡ slot f) × (r < 172) ⌝ }
+{
+    4 * number_of(f)
+}
+
+// How far it is from a start to an end; none if the end is before it.
+fn distance(start: usize, end: usize) -> usize
+    ensures { λ r. ⌜ r ≡ end - start ⌝ }
+{
+    if end < start {
+        return 0;
+    }
+    end - start
+}
+
+// Whether a name's four numbers, from a number on, are in the table and not taken.
+fn is_free(places: &[usize], n: usize) -> bool
+    requires { ⌜ n < 172 ⌝ }
+    ensures { λ r. ⌜ r ≡ free (now (places .entry)) n ⌝ }
+{
+    if places.len() <= n + 3 {
+        return false;
+    }
+    places[n] == 0
+}
+
+// Writes a name's four numbers.
+fn fill(places: &mut [usize], n: usize, start: usize, length: usize, items: usize)
+    requires { ⌜ n < 172 ⌝ }
+    requires { ⌜ (n + 1 < size (now places)) × (n + 2 < size (now places)) × (n + 3 < size (now places)) ⌝ }
+    ensures { λ _. ⌜ now (places .exit) ≡ filled (now (places .entry)) n start length items ⌝ }
+{
+    places[n] = 1;
+    places[n + 1] = start;
+    places[n + 2] = length;
+    places[n + 3] = items;
+}
+
+// Notes a field under its name, once, and of a list's fields those of the first item alone.
+pub fn note(places: &mut [usize], f: Field, index: usize, start: usize, end: usize, items: usize)
+    ensures { λ _. ⌜ now (places .exit) ≡ noted f index start end items (now (places .entry)) ⌝ }
+{
+    if index != 0 {
+        return;
+    }
+    let n = slot_of(f);
+    if !is_free(places, n) {
+        return;
+    }
+    fill(places, n, start, distance(start, end), items);
+}
+
+// A number of a table; past its end they are zeros.
+fn number_at(places: &[usize], n: usize) -> usize
+    ensures { λ r. ⌜ r ≡ getD (now (places .entry)) n 0 ⌝ }
+{
+    if n < places.len() {
+        return places[n];
+    }
+    0
+}
+
+// What stands under a name.
+pub fn under(places: &[usize], f: Field) -> Place
+    ensures { λ r. ⌜ r .there ≡ not (eqb (getD (now (places .entry)) (slot f) 0) 0) ⌝ }
+    ensures { λ r. ⌜ r .start ≡ getD (now (places .entry)) (slot f + 1) 0 ⌝ }
+    ensures { λ r. ⌜ r .length ≡ getD (now (places .entry)) (slot f + 2) 0 ⌝ }
+    ensures { λ r. ⌜ r .items ≡ getD (now (places .entry)) (slot f + 3) 0 ⌝ }
+{
+    let n = slot_of(f);
+    Place {
+        there: number_at(places, n) != 0,
+        start: number_at(places, n + 1),
+        length: number_at(places, n + 2),
+        items: number_at(places, n + 3),
+    }
+}
