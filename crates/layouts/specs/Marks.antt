@@ -8,7 +8,7 @@ use lib.Dec.{ltb}
 use Rattle.terms.specs.declared.Field.{Field}
 use Rattle.terms.specs.Numbers.{too-many-items}
 use Rattle.terms.specs.Answer.{pick}
-use Rattle.heads.specs.Scan.{headAt}
+use Rattle.heads.specs.Scan.{headAt, outermostAt}
 use Rattle.heads.specs.declared.Seen.{Seen}
 use Rattle.heads.specs.declared.Seen.the-variants.{Item as At, Refused as Bad}
 use Rattle.heads.specs.declared.Step.{Step}
@@ -16,6 +16,7 @@ use Rattle.heads.specs.declared.Step.the-variants.{Next, Refused}
 use Rattle.contents.specs.Content.{Leaf}
 use Rattle.contents.specs.Leaves.{boolean}
 use Rattle.layouts.specs.Layout.{Item, leaf, node, list, wrap, Members, end, _▸_, Member, known, one, maybe, flag, choose, tagOf}
+use Rattle.layouts.specs.Whole.{sequence}
 use Rattle.layouts.specs.Scan.{leafAt, beginsAt, scan, scanPart}
 use Rattle.layouts.specs.Places.{noted}
 use Rattle.layouts.specs.declared.Tally.{Tally}
@@ -75,3 +76,7 @@ unfoldable mutual
   marksPart (choose f l t g i j) k s p e d =
       afterSeen (leafAt l s p e) d λ a z.
       pick (t (slice a z s)) (marks i g k s z e (leafMarks l f k s p e d)) (marks j g k s z e (leafMarks l f k s p e d))
+
+-- a record at a position
+unfoldable pub recordMarks : ℕ → Members → List ℕ → ℕ → ℕ → List ℕ → List ℕ
+recordMarks most r s p e d = afterSeen (outermostAt most sequence s p e) d λ a z. marksAll r 0 s a z d

@@ -1,20 +1,25 @@
-// Reading a seal and a signature record: one reader over the table of layouts.
+// Reading a seal and a signature record: one reader over the table of layouts, which notes where each field stands.
 use heads::Seen;
 use heads::Step;
 use items::Tag;
 use layouts::Outcome;
+use layouts::Tally;
 use tables::Form;
 use tables::Kind;
 use tables::Member;
 use tables::Shape;
+use terms::Field;
 ghost use mathlib.Core.Path.{_≡_};
 ghost use Rattle.terms.specs.Numbers.{largest-record};
+ghost use Rattle.layouts.specs.Layout.{leaf as leafItem};
 ghost use Rattle.layouts.specs.Scan.{scan, scans, recordScan};
+ghost use Rattle.layouts.specs.Marks.{leafMarks, marks, marksAll, recordMarks};
+ghost use Rattle.layouts.specs.Places.{Placed};
 ghost use Rattle.layouts.specs.Whole.{toldOutcome};
 ghost use Rattle.records.specs.Record.{seal, signature};
-ghost use Rattle.records.specs.Handing.{recordAnswer};
-ghost use Rattle.tables.specs.Table.{inner, layoutOf};
-ghost use Rattle.readers.specs.Machine.{memberAt, manyAt, outcomeOf};
+ghost use Rattle.records.specs.Handing.{recordAnswer, fieldsIn};
+ghost use Rattle.tables.specs.Table.{leafOf, inner, layoutOf};
+ghost use Rattle.readers.specs.Machine.{memberAt, memberMarks, tallyAt, manyAt, outcomeOf};
 
 // The most bytes of a record, header included.
 const LARGEST_RECORD: usize = 65535;
@@ -22,21 +27,56 @@ const LARGEST_RECORD: usize = 65535;
 // The most items of a list.
 const MOST_ITEMS: usize = 64;
 
-// An item at a position, up to its encloser's end: where what follows it starts, or the first refusal in it.
-fn item(s: &[u8], x: Shape, at: usize, end: usize) -> Step
-    ensures { λ r. ⌜ r ≡ scan (layoutOf x) (now (s .entry)) at end ⌝ }
+// What reading a record comes to; and, where it was accepted, the table of its places.
+pub struct Reading {
+    outcome: Outcome,
+    places: [usize; 172],
+}
+
+// A primitive item under its name, and its index in a list: where what follows it starts.
+fn leaf(
+    s: &[u8],
+    form: Form,
+    name: Field,
+    index: usize,
+    at: usize,
+    end: usize,
+    places: &mut [usize],
+) -> Step
+    ensures { λ r. ⌜ (r ≡ scan (leafItem (leafOf form)) (now (s .entry)) at end) × (now (places .exit) ≡ leafMarks (leafOf form) name index (now (s .entry)) at end (now (places .entry))) ⌝ }
+{
+    let h = leaves::leaf(s, form, at, end);
+    let Seen::Item(a, z) = h else {
+        return leaves::past(h);
+    };
+    places::note(places, name, index, a + tables::hidden_of(form), z, 0);
+    Step::Next(z)
+}
+
+// An item under its name, up to its encloser's end: where what follows it starts, or the first refusal in it.
+fn item(
+    s: &[u8],
+    x: Shape,
+    name: Field,
+    index: usize,
+    at: usize,
+    end: usize,
+    places: &mut [usize],
+) -> Step
+    ensures { λ r. ⌜ (r ≡ scan (layoutOf x) (now (s .entry)) at end) × (now (places .exit) ≡ marks (layoutOf x) name index (now (s .entry)) at end (now (places .entry))) ⌝ }
 {
     let k = tables::kind_of(x);
     match k {
-        Kind::Leaf(f) => leaves::past(leaves::leaf(s, f, at, end)),
+        Kind::Leaf(form) => leaf(s, form, name, index, at, end, places),
         Kind::Node(t) => {
             let h = items::head(s, t, at, end);
             let Seen::Item(a, z) = h else {
                 return leaves::past(h);
             };
-            row(s, x, a, z)
+            places::note(places, name, index, at, z, 0);
+            row(s, x, index, a, z, places)
         }
-        Kind::List(t, empty, _, y) => {
+        Kind::List(t, empty, each, y) => {
             let h = items::head(s, t, at, end);
             let Seen::Item(a, z) = h else {
                 return leaves::past(h);
@@ -44,14 +84,21 @@ fn item(s: &[u8], x: Shape, at: usize, end: usize) -> Step
             if !texts::enough(a, z, empty) {
                 return Step::Refused(15, at);
             }
-            list(s, y, a, z)
+            let c = list(s, y, each, a, z, places);
+            match c {
+                Tally::Refused(number, place) => Step::Refused(number, place),
+                Tally::Items(n) => {
+                    places::note(places, name, index, at, z, n);
+                    Step::Next(z)
+                }
+            }
         }
         Kind::Wrap(t, y) => {
             let h = items::head(s, t, at, end);
             let Seen::Item(a, z) = h else {
                 return leaves::past(h);
             };
-            let r = item(s, y, a, z);
+            let r = item(s, y, name, index, a, z, places);
             let Step::Next(q) = r else {
                 return r;
             };
@@ -61,14 +108,14 @@ fn item(s: &[u8], x: Shape, at: usize, end: usize) -> Step
 }
 
 // The members of a row, one after another, to the end: 5 if bytes are left over.
-fn row(s: &[u8], x: Shape, at: usize, end: usize) -> Step
-    ensures { λ r. ⌜ r ≡ scans (inner (layoutOf x)) (now (s .entry)) at end ⌝ }
+fn row(s: &[u8], x: Shape, index: usize, at: usize, end: usize, places: &mut [usize]) -> Step
+    ensures { λ r. ⌜ (r ≡ scans (inner (layoutOf x)) (now (s .entry)) at end) × (now (places .exit) ≡ marksAll (inner (layoutOf x)) index (now (s .entry)) at end (now (places .entry))) ⌝ }
 {
     let members = tables::members_of(x);
     let mut p = at;
     let mut k: usize = 0;
     while k < 6 {
-        let r = member(s, members[k], p, end);
+        let r = member(s, members[k], index, p, end, places);
         let Step::Next(q) = r else {
             return r;
         };
@@ -79,68 +126,69 @@ fn row(s: &[u8], x: Shape, at: usize, end: usize) -> Step
 }
 
 // A member of a row.
-fn member(s: &[u8], m: Member, at: usize, end: usize) -> Step
-    ensures { λ r. ⌜ r ≡ memberAt m (now (s .entry)) at end ⌝ }
+fn member(s: &[u8], m: Member, index: usize, at: usize, end: usize, places: &mut [usize]) -> Step
+    ensures { λ r. ⌜ (r ≡ memberAt m (now (s .entry)) at end) × (now (places .exit) ≡ memberMarks m index (now (s .entry)) at end (now (places .entry))) ⌝ }
 {
     match m {
         Member::Blank => Step::Next(at),
         Member::Known(w) => leaves::past(leaves::known(s, w, at, end)),
-        Member::Leaf(_, f) => leaves::past(leaves::leaf(s, f, at, end)),
-        Member::Part(_, x) => item(s, x, at, end),
-        Member::Maybe(_, x) => {
+        Member::Leaf(name, form) => leaf(s, form, name, index, at, end, places),
+        Member::Part(name, x) => item(s, x, name, index, at, end, places),
+        Member::Maybe(name, x) => {
             if leaves::begins(s, tables::tag_of(x), at, end) {
-                return item(s, x, at, end);
+                return item(s, x, name, index, at, end, places);
             }
             Step::Next(at)
         }
-        Member::Flag(_) => {
+        Member::Flag(name) => {
             if leaves::begins(s, Tag::Boolean, at, end) {
-                return leaves::past(leaves::leaf(s, Form::Critical, at, end));
+                return leaf(s, Form::Critical, name, index, at, end, places);
             }
             Step::Next(at)
         }
-        Member::Kinds(_, _, x, y) => {
+        Member::Kinds(kind, name, x, y) => {
             let h = leaves::leaf(s, Form::ListKind, at, end);
             let Seen::Item(a, z) = h else {
                 return leaves::past(h);
             };
+            places::note(places, kind, index, a, z, 0);
             if integers::is_one(s, a, z) {
-                return item(s, x, z, end);
+                return item(s, x, name, index, z, end, places);
             }
-            item(s, y, z, end)
+            item(s, y, name, index, z, end, places)
         }
     }
 }
 
-// The items of a list, one after another, to the end: 16 at the 65th.
-fn list(s: &[u8], x: Shape, at: usize, end: usize) -> Step
-    ensures { λ r. ⌜ r ≡ manyAt (layoutOf x) 64 (now (s .entry)) at end ⌝ }
+// The items of a list, one after another, to the end, and their number: 16 at the 65th.
+fn list(s: &[u8], x: Shape, name: Field, at: usize, end: usize, places: &mut [usize]) -> Tally
+    ensures { λ r. ⌜ (r ≡ tallyAt (layoutOf x) 0 (now (s .entry)) at end) × (now (places .exit) ≡ manyAt (layoutOf x) name 0 (now (s .entry)) at end (now (places .entry))) ⌝ }
 {
     let mut p = at;
-    let mut left = MOST_ITEMS;
+    let mut k: usize = 0;
     while p < end {
-        if left == 0 {
-            return Step::Refused(16, p);
+        if k == MOST_ITEMS {
+            return Tally::Refused(16, p);
         }
-        let r = item(s, x, p, end);
-        let Step::Next(q) = r else {
-            return r;
-        };
-        p = q;
-        left -= 1;
+        let r = item(s, x, name, k, p, end, places);
+        match r {
+            Step::Refused(number, place) => return Tally::Refused(number, place),
+            Step::Next(q) => p = q,
+        }
+        k += 1;
     }
-    Step::Next(end)
+    Tally::Items(k)
 }
 
 // A record at a position, whatever follows it: where it ends, or the first refusal in it.
-fn record(s: &[u8], x: Shape, at: usize, end: usize) -> Step
-    ensures { λ r. ⌜ r ≡ recordScan largest-record (inner (layoutOf x)) (now (s .entry)) at end ⌝ }
+fn record(s: &[u8], x: Shape, at: usize, end: usize, places: &mut [usize]) -> Step
+    ensures { λ r. ⌜ (r ≡ recordScan largest-record (inner (layoutOf x)) (now (s .entry)) at end) × (now (places .exit) ≡ recordMarks largest-record (inner (layoutOf x)) (now (s .entry)) at end (now (places .entry))) ⌝ }
 {
     let h = items::outermost(s, LARGEST_RECORD, Tag::Sequence, at, end);
     let Seen::Item(a, z) = h else {
         return leaves::past(h);
     };
-    row(s, x, a, z)
+    row(s, x, 0, a, z, places)
 }
 
 // A step as what a caller is told.
@@ -153,27 +201,44 @@ fn outcome(x: Step) -> Outcome
     }
 }
 
-// A record that is the whole input: 5 if bytes are left over.
-fn whole(s: &[u8], x: Shape) -> Outcome
-    ensures { λ r. ⌜ toldOutcome r ≡ recordAnswer (inner (layoutOf x)) (now (s .entry)) ⌝ }
+// A record that is the whole input: 5 if bytes are left over. A refused one has no places.
+fn whole(s: &[u8], x: Shape) -> Reading
+    ensures { λ r. ⌜ toldOutcome (r .outcome) ≡ recordAnswer (inner (layoutOf x)) (now (s .entry)) ⌝ }
+    ensures { λ r. ⌜ Placed (fieldsIn (inner (layoutOf x)) (now (s .entry))) (r .places) ⌝ }
 {
-    let r = record(s, x, 0, s.len());
+    let mut places = [0usize; 172];
+    let r = record(s, x, 0, s.len(), &mut places);
     let Step::Next(q) = r else {
-        return outcome(r);
+        return Reading {
+            outcome: outcome(r),
+            places: [0usize; 172],
+        };
     };
-    outcome(leaves::close(q, s.len()))
+    let c = leaves::close(q, s.len());
+    let Step::Next(_) = c else {
+        return Reading {
+            outcome: outcome(c),
+            places: [0usize; 172],
+        };
+    };
+    Reading {
+        outcome: outcome(c),
+        places: places,
+    }
 }
 
-// A seal: its length, or the number and place of the first refusal.
-pub fn read_seal(s: &[u8]) -> Outcome
-    ensures { λ r. ⌜ toldOutcome r ≡ recordAnswer seal (now (s .entry)) ⌝ }
+// A seal: its length, or the number and place of the first refusal; and where its fields stand.
+pub fn read_seal(s: &[u8]) -> Reading
+    ensures { λ r. ⌜ toldOutcome (r .outcome) ≡ recordAnswer seal (now (s .entry)) ⌝ }
+    ensures { λ r. ⌜ Placed (fieldsIn seal (now (s .entry))) (r .places) ⌝ }
 {
     whole(s, Shape::Seal)
 }
 
-// A signature record: its length, or the number and place of the first refusal.
-pub fn read_signature(s: &[u8]) -> Outcome
-    ensures { λ r. ⌜ toldOutcome r ≡ recordAnswer signature (now (s .entry)) ⌝ }
+// A signature record: its length, or the number and place of the first refusal; and where its fields stand.
+pub fn read_signature(s: &[u8]) -> Reading
+    ensures { λ r. ⌜ toldOutcome (r .outcome) ≡ recordAnswer signature (now (s .entry)) ⌝ }
+    ensures { λ r. ⌜ Placed (fieldsIn signature (now (s .entry))) (r .places) ⌝ }
 {
     whole(s, Shape::Signature)
 }

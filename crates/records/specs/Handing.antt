@@ -62,6 +62,14 @@ abbrev pub asked : {A : Type 0} → Res A → (A → Told) → Told
 asked (good v) f = f v
 asked (fault n p) f = refusal n p
 
+-- the fields of an accepted record; a refused one has none
+abbrev pub fieldsOf : (r : Members) → Res (Values r) → List Entry
+fieldsOf r (good v) = fields r v
+fieldsOf r (fault n p) = []
+
+unfoldable pub fieldsIn : Members → List ℕ → List Entry
+fieldsIn r w = fieldsOf r (readRecord r w)
+
 -- where a field lies, start and length
 abbrev pub toldEntry : Option Entry → Told
 toldEntry none = told-none absent

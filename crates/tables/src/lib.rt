@@ -91,6 +91,27 @@ pub fn tag_of_form(f: Form) -> Tag
     }
 }
 
+// How many bytes of a primitive item are never handed out: the first of a bit string.
+pub fn hidden_of(f: Form) -> usize
+    ensures { λ r. ⌜ r ≡ leafOf f .hidden ⌝ }
+{
+    match f {
+        Form::Octets => 0,
+        Form::AnyOctets => 0,
+        Form::Bits => 1,
+        Form::Ia5 => 0,
+        Form::AnyIa5 => 0,
+        Form::AnyPrintable => 0,
+        Form::AnyUtf8 => 0,
+        Form::Identifier => 0,
+        Form::Time => 0,
+        Form::Integer => 0,
+        Form::ListKind => 0,
+        Form::Millimetres => 0,
+        Form::Critical => 0,
+    }
+}
+
 // What kind of item each is.
 pub fn kind_of(x: Shape) -> Kind
     ensures { λ r. ⌜ layoutOf x ≡ itemOf x r ⌝ }
