@@ -3,3 +3,4 @@ pub mod Sheet
 pub mod Whole
 pub mod Fields
 pub mod Scan
+pub mod Marks
