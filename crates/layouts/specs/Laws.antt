@@ -4,3 +4,4 @@ pub mod Whole
 pub mod Fields
 pub mod Scan
 pub mod Marks
+pub mod Places
