@@ -3,3 +3,5 @@ pub mod Sheet
 pub mod Whole
 pub mod Fields
 pub mod Scan
+pub mod Marks
+pub mod Places

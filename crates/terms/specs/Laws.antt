@@ -1,3 +1,4 @@
 pub mod Answer
 pub mod Digits
 pub mod Table
+pub mod Names

@@ -171,6 +171,11 @@ boolean-yes : booleanRule yes ≡ fine
 unfolding booleanRule same ask
 boolean-yes = refl
 
+-- a BOOLEAN that is there is TRUE
+pub yes-back : (c : List ℕ) → booleanRule c ≡ fine → c ≡ yes-byte
+unfolding booleanRule
+yes-back c h = by-ask _ _ _ h λ t e. same-eq c yes t
+
 pub flag-forward : (v : Bool) (w : List ℕ) (b : ℕ) → begins (boolean .tag) w ≡ false → length (critical v) < unspelled → readFlag (critical v ++ w) b ≡ good (v, w, b + length (critical v))
 unfolding readFlag critical bind pick begins tlv
 flag-forward true w b q h = rw (leaf-forward (boolean .tag) (boolean .rule) yes w b boolean-yes h) (ap (λ (m : ℕ). good (true, w, m)) (let e = length-tlv (boolean .tag) yes in omega arith))
@@ -182,7 +187,7 @@ flag-back w b x q =
     test (begins (boolean .tag) w)
     (λ h. by-bind _ _ _ (sym (pick-yes (begins (boolean .tag) w) _ _ h) ∙ q) λ c e₁ e₂.
     let u = leaf-back (boolean .tag) (boolean .rule) w b c e₁ in
-    let v : c .0 ≡ yes = unfold booleanRule in by-ask _ _ _ (u .1) λ t e. same-eq (c .0) yes t in
+    let v = yes-back (c .0) (u .1) in
     rw (← good-inj e₂) (rw v at (u .0), tt, u .2 ∙ ap (λ (y : List ℕ). b + length (tlv (boolean .tag) y)) v))
     (λ h. rw (← good-inj (sym (pick-no (begins (boolean .tag) w) _ _ h) ∙ q)) (refl, tt, omega arith))
 

@@ -45,7 +45,7 @@ front-slice p e s a r h k q =
     ∙ ap (drop p) (take-take (p + length a) e s (omega arith))
 
 -- what was read at the front of a window leaves the window from there on
-abbrev Onward : List ℕ → ℕ → ℕ → List ℕ → ℕ → Type 0
+abbrev pub Onward : List ℕ → ℕ → ℕ → List ℕ → ℕ → Type 0
 Onward s p e r n = (r ≡ slice n e s) × (p ≤ n) × (n ≤ e)
 
 onward : (p e : ℕ) (s a r : List ℕ) (n : ℕ) → p ≤ e → e ≤ length s → slice p e s ≡ a ++ r → n ≡ p + length a → Onward s p e r n
@@ -119,7 +119,7 @@ choose-read {A} {B} f g false k w b = go (g w b)
 
 module _ (s : List ℕ) where
   -- by cases on a window: it is empty, or it has a first byte
-  by-window : (p e : ℕ) (f : Bool → List ℕ → Type 0) → p ≤ e → e ≤ length s → f false [] → f true (getD s p 0 ∷ slice (suc p) e s) → f (ltb p e) (slice p e s)
+  pub by-window : (p e : ℕ) (f : Bool → List ℕ → Type 0) → p ≤ e → e ≤ length s → f false [] → f true (getD s p 0 ∷ slice (suc p) e s) → f (ltb p e) (slice p e s)
   by-window p e f pe es empty full =
       test (ltb p e)
       (λ h. let h′ : p < e = ltb→lt p e h in rw (lt-ltb p e h′, slice-cons p e s 0 h′ es) full)
@@ -139,7 +139,7 @@ module _ (s : List ℕ) where
       (front-slice (c .2) e s (c .0) (c .1) (o .2) es (sym (o .0)), o′ .0, o .1, o′ .2)
 
   -- a primitive item's parts too
-  leaf-parts : (t : ℕ) (r : List ℕ → Check) (p e : ℕ) → p ≤ e → e ≤ length s → (c : Cut) → readBy t r (slice p e s) p ≡ good c → Parts p e c
+  pub leaf-parts : (t : ℕ) (r : List ℕ → Check) (p e : ℕ) → p ≤ e → e ≤ length s → (c : Cut) → readBy t r (slice p e s) p ≡ good c → Parts p e c
   unfolding readBy
   leaf-parts t r p e pe es x q =
       by-bind _ _ _ q λ c e₁ e₂. by-judge _ _ _ _ _ e₂ λ ok e₃. rw (← good-inj e₃) (head-parts t p e pe es c e₁)
@@ -151,7 +151,7 @@ module _ (s : List ℕ) where
       let b = head-parts t p e pe es c h in
       rw (← b .0) (seen-judge (r (c .0)) p c)
 
-  begins-agree : (t p e : ℕ) → p ≤ e → e ≤ length s → beginsAt t s p e ≡ begins t (slice p e s)
+  pub begins-agree : (t p e : ℕ) → p ≤ e → e ≤ length s → beginsAt t s p e ≡ begins t (slice p e s)
   unfolding beginsAt begins
   begins-agree t p e pe es = by-window p e (λ u w. u && eqb (getD s p 0) t ≡ begins t w) pe es refl refl
 
@@ -159,7 +159,7 @@ module _ (s : List ℕ) where
   unfolding closeAt finish pick
   close-agree p e pe es = by-window p e (λ u w. pick u (Refused left-over p) (Next e) ≡ whole e (finish w p)) pe es refl refl
 
-  enough-agree : (k : Bool) (p e : ℕ) → p ≤ e → e ≤ length s → k || ltb p e ≡ enough k (slice p e s)
+  pub enough-agree : (k : Bool) (p e : ℕ) → p ≤ e → e ≤ length s → k || ltb p e ≡ enough k (slice p e s)
   unfolding enough
   enough-agree true p e pe es = refl
   enough-agree false p e pe es = by-window p e (λ u w. u ≡ enough false w) pe es refl refl
@@ -180,10 +180,10 @@ module _ (s : List ℕ) where
       (λ h. let h′ : e ≤ p = nltb→le p e h in let q : p ≡ e = omega arith in let m : slice p e s ≡ [] = rw q (slice-empty e s) in rw (le-ltb p e h′, m))
 
   -- what a reading leaves
-  item-on : (i : Item) (p e : ℕ) → p ≤ e → e ≤ length s → (x : Got (Value i)) → read i (slice p e s) p ≡ good x → Onward s p e (x .1) (x .2)
+  pub item-on : (i : Item) (p e : ℕ) → p ≤ e → e ≤ length s → (x : Got (Value i)) → read i (slice p e s) p ≡ good x → Onward s p e (x .1) (x .2)
   item-on i p e pe es x h = let w = backward i (slice p e s) p x h in onward p e s (encode i (x .0)) (x .1) (x .2) pe es (w .0) (w .2)
 
-  part-on : (m : Member) (p e : ℕ) → p ≤ e → e ≤ length s → (x : Got (Part m)) → readPart m (slice p e s) p ≡ good x → Onward s p e (x .1) (x .2)
+  pub part-on : (m : Member) (p e : ℕ) → p ≤ e → e ≤ length s → (x : Got (Part m)) → readPart m (slice p e s) p ≡ good x → Onward s p e (x .1) (x .2)
   part-on m p e pe es x h = let w = backwardPart m (slice p e s) p x h in onward p e s (encodePart m (x .0)) (x .1) (x .2) pe es (w .0) (w .2)
 
   mutual
@@ -224,7 +224,7 @@ module _ (s : List ℕ) where
         let o = part-on m p e pe es a h in
         rw (scans-read r (a .2) e (o .2) es, ← o .0) (out-map (λ x. e) (λ x. e) _ _ λ a. refl))
 
-    part-read : (m : Member) (p e : ℕ) → p ≤ e → e ≤ length s → scanPart m s p e ≡ step (readPart m (slice p e s) p)
+    pub part-read : (m : Member) (p e : ℕ) → p ≤ e → e ≤ length s → scanPart m s p e ≡ step (readPart m (slice p e s) p)
     part-read (known l k n) p e pe es =
         rw (leaf-agree (l .tag) (onlyRule (l .rule) k n) p e pe es) (seen-bind (λ x. x .2) _ _ _ λ c h. refl)
     part-read (one f i) p e pe es = scan-read i p e pe es

@@ -1,0 +1,175 @@
+-- The table of places that `notes` makes is the one that `Placed` asks for, and there is no other. Assumes nothing.
+use mathlib.Core.Path.{_≡_, refl, sym, ap, _∙_}
+use mathlib.Core.Logic.{_≢_}
+use Prim.Native.Nat.{ℕ, suc, zero, _+_, _*_, _-_, _/_, _%_, _≤_, _<_}
+use native.Mathlib.Omega.{arith}
+use mathlib.Core.Bool.{Bool, not, _&&_}
+use mathlib.Core.Option.{none, some}
+use mathlib.Core.List.{List, [], _∷_, _++_}
+use lib.ListN.{length, getD, set, take, drop, replicate, length-append, length-replicate, getD-replicate, List·getD-append}
+use lib.Seq.{sets, sets-eq, length-sets, length-take-le, getD-set-other, getD-append-add, ext-getD}
+use lib.Dec.{T, eqb, ltb, T-not, eqb→eq, ltb→lt, lt→ltb}
+use borrow.Author.Tests.{eq-eqb}
+use Rattle.terms.specs.declared.Field.{Field}
+use Rattle.terms.specs.Names.{code, sameName}
+use Rattle.terms.specs.Laws.Names.{code-below, code-onto}
+use Rattle.terms.specs.Laws.Answer.{test, and-l, and-r, both, pick-yes, pick-no}
+use Rattle.layouts.specs.Fields.{Entry, isField, first}
+use Rattle.layouts.specs.Places.{table-size, slot, under, spot, Placed, noted, notes}
+
+-- ---- a run of stores
+
+-- what was stored stands there
+sets-here : (vs l : List ℕ) (o j : ℕ) → o + length vs ≤ length l → j < length vs → getD (sets l o vs) (o + j) 0 ≡ getD vs j 0
+sets-here vs l o j h k =
+    let e : length (take o l) ≡ o = length-take-le o l (omega arith) in
+    let n = length-append (take o l) vs in
+    ap (λ (y : List ℕ). getD y (o + j) 0) (sets-eq vs l o h) ∙ List·getD-append (take o l ++ vs) (drop (o + length vs) l) 0 (o + j) (omega arith) ∙ rw e at (getD-append-add (take o l) vs j 0)
+
+-- elsewhere nothing changes
+sets-other : (vs l : List ℕ) (o i : ℕ) → ((j : ℕ) → j < length vs → i ≢ o + j) → getD (sets l o vs) i 0 ≡ getD l i 0
+sets-other [] l o i h = refl
+sets-other (a ∷ vs) l o i h =
+    sets-other vs (set l o a) (suc o) i (λ j k q. h (suc j) (omega arith) (omega arith)) ∙ getD-set-other l o i a 0 (λ q. h 0 (omega arith) (omega arith))
+
+-- ---- the four numbers under a name
+
+-- each of them is a number of the table
+under-at : (f : Field) (d : List ℕ) (j : ℕ) → j < 4 → getD (under f d) j 0 ≡ getD d (slot f + j) 0
+unfolding under
+under-at f d zero h = ap (λ (k : ℕ). getD d k 0) (omega arith)
+under-at f d (suc zero) h = refl
+under-at f d (suc (suc zero)) h = refl
+under-at f d (suc (suc (suc zero))) h = refl
+under-at f d (suc (suc (suc (suc j)))) h = let z : ⊥ = omega arith in absurd z
+
+-- they are the four that stand there one by one
+under-is : (f : Field) (d vs : List ℕ) → 4 ≡ length vs → ((j : ℕ) → j < 4 → getD d (slot f + j) 0 ≡ getD vs j 0) → under f d ≡ vs
+unfolding under
+under-is f d vs l h = ext-getD 0 (under f d) vs l λ j k. under-at f d j k ∙ h j k
+
+-- the first of them
+first-is : (f : Field) (d vs : List ℕ) → under f d ≡ vs → getD d (slot f) 0 ≡ getD vs 0 0
+unfolding under
+first-is f d vs e = ap (λ (y : List ℕ). getD y 0 0) e
+
+-- ---- one field
+
+abbrev noting : Entry → List ℕ → List ℕ
+noting x d = noted (x .name) (x .index) (x .place) (x .place + length (x .bytes)) (x .items) d
+
+-- the test that decides whether it is noted
+abbrev free : Entry → List ℕ → Bool
+free x d = eqb (x .index) 0 && (ltb (slot (x .name) + 3) (length d) && eqb (getD d (slot (x .name)) 0) 0)
+
+-- what that test says
+free-is : (x : Entry) (d : List ℕ) → T (free x d) → (x .index ≡ 0) × (slot (x .name) + 3 < length d) × (getD d (slot (x .name)) 0 ≡ 0)
+free-is x d t =
+    let t′ = and-r (eqb (x .index) 0) _ t in
+    (eqb→eq (x .index) 0 (and-l (eqb (x .index) 0) _ t), ltb→lt (slot (x .name) + 3) (length d) (and-l (ltb (slot (x .name) + 3) (length d)) _ t′), eqb→eq (getD d (slot (x .name)) 0) 0 (and-r (ltb (slot (x .name) + 3) (length d)) _ t′))
+
+-- a field that is noted is stored in four numbers
+noted-free : (x : Entry) (d : List ℕ) → T (free x d) → noting x d ≡ sets d (slot (x .name)) (spot (some x))
+unfolding noted
+noted-free x d t =
+    let p : slot (x .name) + 1 ≡ suc (slot (x .name)) = omega arith in
+    let q : slot (x .name) + 2 ≡ suc (suc (slot (x .name))) = omega arith in
+    let r : slot (x .name) + 3 ≡ suc (suc (suc (slot (x .name)))) = omega arith in
+    let m : x .place + length (x .bytes) - x .place ≡ length (x .bytes) = omega arith in
+    pick-yes _ _ _ t ∙ rw (p, q, r, m)
+
+-- a field that is not noted changes nothing
+noted-held : (x : Entry) (d : List ℕ) → T (not (free x d)) → noting x d ≡ d
+unfolding noted
+noted-held x d t = pick-no _ _ _ t
+
+-- either way the table keeps its size
+length-noted : (x : Entry) (d : List ℕ) → length (noting x d) ≡ length d
+length-noted x d =
+    test (free x d)
+    (λ t. rw (noted-free x d t) (length-sets d (slot (x .name)) (spot (some x))))
+    (λ t. rw (noted-held x d t))
+
+module _ (f : Field) where
+  -- a field of another name, and one that is not noted, leave what stands under a name
+  noted-past : (x : Entry) (d : List ℕ) → (code f ≡ code (x .name) → T (free x d) → ⊥) → under f (noting x d) ≡ under f d
+  unfolding under slot
+  noted-past x d h =
+      test (free x d)
+      (λ t. rw (noted-free x d t)
+      (under-is f (sets d (slot (x .name)) (spot (some x))) (under f d) refl λ j b.
+      sets-other (spot (some x)) d (slot (x .name)) (slot f + j) (λ i c e. h (omega arith) t) ∙ sym (under-at f d j b)))
+      (λ t. rw (noted-held x d t))
+
+  -- names of one number have one place
+  slot-alike : (g : Field) → code f ≡ code g → slot g ≡ slot f
+  unfolding slot
+  slot-alike g e = ap (λ (k : ℕ). 4 * k) (sym e)
+
+  -- a field that is noted stands under its name
+  noted-there : (x : Entry) (d : List ℕ) → code f ≡ code (x .name) → T (free x d) → under f (noting x d) ≡ spot (some x)
+  noted-there x d e t =
+      let s = slot-alike (x .name) e in
+      let b = free-is x d t in
+      rw (noted-free x d t, s) (under-is f (sets d (slot f) (spot (some x))) (spot (some x)) refl λ j c. sets-here (spot (some x)) d (slot f) j (omega arith) c)
+
+  -- a field that is asked for has the name's number and the index 0
+  field-is : (x : Entry) → T (isField f 0 x) → (code f ≡ code (x .name)) × (x .index ≡ 0)
+  unfolding isField sameName
+  field-is x t =
+      (eqb→eq (code f) (code (x .name)) (and-l (eqb (code f) (code (x .name))) _ t), sym (eqb→eq 0 (x .index) (and-r (eqb (code f) (code (x .name))) _ t)))
+
+  -- and one that has them is asked for
+  is-field : (x : Entry) → code f ≡ code (x .name) → x .index ≡ 0 → T (isField f 0 x)
+  unfolding isField sameName
+  is-field x e i = rw (eq-eqb (code f) (code (x .name)) e, i) tt
+
+  -- ---- a list of fields
+
+  -- what stands under a name stays
+  kept : (xs : List Entry) (d : List ℕ) → getD d (slot f) 0 ≡ 1 → under f (notes xs d) ≡ under f d
+  unfolding notes under
+  kept [] d h = refl
+  kept (x ∷ xs) d h =
+      let u = noted-past x d λ e t. let z : getD d (slot f) 0 ≡ 0 = rw (← slot-alike (x .name) e) (free-is x d t .2) in omega arith in
+      kept xs (noting x d) (first-is f (noting x d) (under f d) u ∙ h) ∙ u
+
+  -- under a name that is empty the first field of that name comes to stand
+  found : (xs : List Entry) (d : List ℕ) → length d ≡ table-size → under f d ≡ spot none → under f (notes xs d) ≡ spot (first (isField f 0) xs)
+  unfolding notes first
+  found [] d l h = h
+  found (x ∷ xs) d l h =
+      test (isField f 0 x)
+      (λ t. let q = field-is x t in
+      let s = slot-alike (x .name) (q .0) in
+      let c = code-below f in
+      let b : slot (x .name) + 3 < length d = rw s (unfold slot in omega arith) in
+      let w : T (free x d) = both (eqb (x .index) 0) _ (rw (q .1) tt) (both (ltb (slot (x .name) + 3) (length d)) _ (lt→ltb _ _ b) (rw (s, first-is f d (spot none) h) tt)) in
+      let u = noted-there x d (q .0) w in
+      rw (pick-yes _ _ _ t) (kept xs (noting x d) (first-is f (noting x d) (spot (some x)) u) ∙ u))
+      (λ t. let u = noted-past x d λ e w. T-not (isField f 0 x) t (is-field x e (free-is x d w .0)) in
+      rw (pick-no _ _ _ t) (found xs (noting x d) (length-noted x d ∙ l) (u ∙ h)))
+
+-- noting keeps the table's size
+pub length-notes : (xs : List Entry) (d : List ℕ) → length (notes xs d) ≡ length d
+unfolding notes
+length-notes [] d = refl
+length-notes (x ∷ xs) d = length-notes xs (noting x d) ∙ length-noted x d
+
+-- the table that is made is the one that is asked for
+pub placed : (xs : List Entry) → Placed xs (notes xs (replicate table-size 0))
+unfolding slot
+placed xs f =
+    let c = code-below f in
+    found f xs (replicate table-size 0) (length-replicate {A = ℕ} table-size 0)
+    (under-is f (replicate table-size 0) (spot none) refl λ j b. getD-replicate table-size (slot f + j) 0 0 (omega arith) ∙ sym (getD-replicate 4 j 0 0 b))
+
+-- and there is no other
+pub placed-once : (xs : List Entry) (d d′ : List ℕ) → length d ≡ table-size → length d′ ≡ table-size → Placed xs d → Placed xs d′ → d ≡ d′
+unfolding slot
+placed-once xs d d′ l l′ h h′ =
+    ext-getD 0 d d′ (l ∙ sym l′) λ i b.
+    let n = code-onto (i / 4) (omega arith) in
+    let e : slot (n .0) + i % 4 ≡ i = omega arith in
+    let k : i % 4 < 4 = omega arith in
+    rw (← e) (sym (under-at (n .0) d (i % 4) k) ∙ ap (λ (y : List ℕ). getD y (i % 4) 0) (h (n .0) ∙ sym (h′ (n .0))) ∙ under-at (n .0) d′ (i % 4) k)
