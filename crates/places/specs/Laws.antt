@@ -1,53 +1,22 @@
--- The names in their order, and the steps of noting a field. Assumes nothing.
+-- A name's slot, and the steps of noting a field. Assumes nothing.
 use mathlib.Core.Path.{_≡_, refl, sym, ap, _∙_}
 use Prim.Native.Nat.{ℕ, suc, zero, _+_, _-_, _*_, _<_, _≤_}
 use native.Mathlib.Omega.{arith}
 use mathlib.Core.Bool.{Bool, true, false, _&&_, not}
-use mathlib.Core.List.{List, [], _∷_, map}
-use lib.ListN.{length, getD, set, List·getD-map}
+use mathlib.Core.List.{List, [], _∷_}
+use lib.ListN.{length, getD, set}
 use lib.Dec.{eqb, ltb, ltb→lt}
 use borrow.Author.Tests.{ne-eqb, lt-ltb, le-ltb}
 use Rattle.terms.specs.declared.Field.{Field}
-use Rattle.terms.specs.declared.Field.the-variants.{SealInformation, Header, Vendor, SealId, Property, SealType, SealName, ListKind, CertificateList, ListedCertificate, ListedEntry, ListedName, ListedDigest, Created, Start, End, Picture, PictureType, PictureData, Width, Height, SealCustomData, SealCustomItem, SealCustomId, SealCustomCritical, SealCustomValue, MakerCertificate, SealAlgorithm, SealSignedValue, SignedPart, Seal, SigningTime, OriginalDigest, PropertyText, SignedCustomData, SignedCustomItem, SignedCustomId, SignedCustomCritical, SignedCustomValue, SignerCertificate, SignatureAlgorithm, SignatureValue, Stamp}
 use Rattle.terms.specs.Names.{code}
+use Rattle.terms.specs.Laws.Names.{nameOf, code-name}
 use Rattle.terms.specs.Answer.{pick}
 use Rattle.layouts.specs.Places.{slot, noted}
 
-abbrev names : List Field
-names =
-    SealInformation ∷ Header ∷ Vendor ∷ SealId ∷ Property ∷ SealType ∷ SealName ∷ ListKind ∷ CertificateList ∷ ListedCertificate ∷ ListedEntry ∷ ListedName ∷ ListedDigest ∷ Created ∷ Start ∷ End ∷ Picture ∷ PictureType ∷ PictureData ∷ Width ∷ Height ∷ SealCustomData ∷ SealCustomItem ∷ SealCustomId ∷ SealCustomCritical ∷ SealCustomValue ∷ MakerCertificate ∷ SealAlgorithm ∷ SealSignedValue ∷ SignedPart ∷ Seal ∷ SigningTime ∷ OriginalDigest ∷ PropertyText ∷ SignedCustomData ∷ SignedCustomItem ∷ SignedCustomId ∷ SignedCustomCritical ∷ SignedCustomValue ∷ SignerCertificate ∷ SignatureAlgorithm ∷ SignatureValue ∷ Stamp ∷ []
-
-abbrev pub nameOf : ℕ → Field
-nameOf n = getD names n Stamp
-
--- so many numbers, from one on
-from : ℕ → ℕ → List ℕ
-from a zero = []
-from a (suc n) = a ∷ from (suc a) n
-
-getD-from : (a n k : ℕ) → k < n → getD (from a n) k 42 ≡ a + k
-unfolding from
-getD-from a zero k h = absurd (omega arith)
-getD-from a (suc n) zero h = omega arith
-getD-from a (suc n) (suc k) h = getD-from (suc a) n k (omega arith) ∙ omega arith
-
-in-order : map code names ≡ from 0 43
-unfolding code from
-in-order = refl
-
-last : code Stamp ≡ 42
-unfolding code
-last = refl
-
--- a name is numbered by its place among them
-code-name : (f : Field) (n : ℕ) → f ≡ nameOf n → n < 43 → code f ≡ n
-code-name f n h k =
-    ap code h ∙ sym (List·getD-map code names n Stamp) ∙ ap (λ (l : List ℕ). getD l n (code Stamp)) in-order ∙ ap (λ (z : ℕ). getD (from 0 43) n z) last
-    ∙ getD-from 0 43 n k ∙ omega arith
-
+-- a name is numbered by its place among the names
 pub slot-name : (f : Field) (n r : ℕ) → f ≡ nameOf n → n < 43 → r ≡ 4 * n → r ≡ slot f
 unfolding slot
-slot-name f n r h k q = q ∙ ap (λ (z : ℕ). 4 * z) (sym (code-name f n h k))
+slot-name f n r h k q = q ∙ ap (λ (z : ℕ). 4 * z) (sym (ap code h ∙ code-name n k))
 
 -- ---- noting a field
 

@@ -6,7 +6,8 @@ ghost use mathlib.Core.Bool.{not};
 ghost use lib.ListN.{getD, length as size};
 ghost use lib.Dec.{eqb};
 ghost use Rattle.layouts.specs.Places.{slot, noted};
-ghost use Rattle.places.specs.Laws.{nameOf, free, filled};
+ghost use Rattle.terms.specs.Laws.Names.{nameOf};
+ghost use Rattle.places.specs.Laws.{free, filled};
 
 // What stands under a name.
 pub struct Place {

@@ -12,7 +12,7 @@ use lib.Dec.{T, eqb, ltb, T-not, eqb→eq, ltb→lt, lt→ltb}
 use borrow.Author.Tests.{eq-eqb}
 use Rattle.terms.specs.declared.Field.{Field}
 use Rattle.terms.specs.Names.{code, sameName}
-use Rattle.terms.specs.Laws.Names.{code-below, code-onto}
+use Rattle.terms.specs.Laws.Names.{code-below, nameOf, code-name}
 use Rattle.terms.specs.Laws.Answer.{test, and-l, and-r, both, pick-yes, pick-no}
 use Rattle.layouts.specs.Fields.{Entry, isField, first}
 use Rattle.layouts.specs.Places.{table-size, slot, under, spot, Placed, noted, notes}
@@ -169,7 +169,8 @@ pub placed-once : (xs : List Entry) (d d′ : List ℕ) → length d ≡ table-s
 unfolding slot
 placed-once xs d d′ l l′ h h′ =
     ext-getD 0 d d′ (l ∙ sym l′) λ i b.
-    let n = code-onto (i / 4) (omega arith) in
-    let e : slot (n .0) + i % 4 ≡ i = omega arith in
+    let f : Field = nameOf (i / 4) in
+    let n = code-name (i / 4) (omega arith) in
+    let e : slot f + i % 4 ≡ i = omega arith in
     let k : i % 4 < 4 = omega arith in
-    rw (← e) (sym (under-at (n .0) d (i % 4) k) ∙ ap (λ (y : List ℕ). getD y (i % 4) 0) (h (n .0) ∙ sym (h′ (n .0))) ∙ under-at (n .0) d′ (i % 4) k)
+    rw (← e) (sym (under-at f d (i % 4) k) ∙ ap (λ (y : List ℕ). getD y (i % 4) 0) (h f ∙ sym (h′ f)) ∙ under-at f d′ (i % 4) k)

@@ -59,7 +59,7 @@ code-below SignatureValue = lit< tt
 code-below Stamp = lit< tt
 
 -- the names in the order of their numbers
-names : List Field
+abbrev names : List Field
 names = SealInformation ∷ Header ∷ Vendor ∷ SealId ∷ Property ∷ SealType ∷ SealName ∷ ListKind ∷ CertificateList ∷ ListedCertificate ∷ ListedEntry ∷ ListedName ∷ ListedDigest ∷ Created ∷ Start ∷ End ∷ Picture ∷ PictureType ∷ PictureData ∷ Width ∷ Height ∷ SealCustomData ∷ SealCustomItem ∷ SealCustomId ∷ SealCustomCritical ∷ SealCustomValue ∷ MakerCertificate ∷ SealAlgorithm ∷ SealSignedValue ∷ SignedPart ∷ Seal ∷ SigningTime ∷ OriginalDigest ∷ PropertyText ∷ SignedCustomData ∷ SignedCustomItem ∷ SignedCustomId ∷ SignedCustomCritical ∷ SignedCustomValue ∷ SignerCertificate ∷ SignatureAlgorithm ∷ SignatureValue ∷ Stamp ∷ []
 
 -- the test that is computed over them
@@ -74,7 +74,10 @@ in-order k [] t i h f = let z : ⊥ = omega arith in absurd z
 in-order k (x ∷ xs) t zero h f = eqb→eq (code x) k (and-l (eqb (code x) k) (inOrder (suc k) xs) t) ∙ omega arith
 in-order k (x ∷ xs) t (suc i) h f = in-order (suc k) xs (and-r (eqb (code x) k) (inOrder (suc k) xs) t) i (omega arith) f ∙ omega arith
 
+abbrev pub nameOf : ℕ → Field
+nameOf i = getD names i SealInformation
+
 -- every number below 43 is a name's
-pub code-onto : (i : ℕ) → i < 43 → (f : Field) × (code f ≡ i)
-unfolding names inOrder code
-code-onto i h = let q = in-order 0 names tt i h SealInformation in (getD names i SealInformation, omega arith)
+pub code-name : (i : ℕ) → i < 43 → code (nameOf i) ≡ i
+unfolding inOrder code
+code-name i h = in-order 0 names tt i h SealInformation ∙ omega arith
