@@ -12,6 +12,7 @@ use Rattle.layouts.specs.Layout.{Item, leaf, maybe, flag, choose}
 use Rattle.layouts.specs.Scan.{scan, scanPart}
 use Rattle.layouts.specs.Marks.{tally, manyMarks, leafMarks, marks, marksPart}
 use Rattle.layouts.specs.declared.Tally.{Tally}
+use Rattle.layouts.specs.declared.Tally.the-variants.{Items, Refused as Uncounted}
 use Rattle.tables.specs.declared.Form.the-variants as form
 use Rattle.tables.specs.declared.Member.{Member}
 use Rattle.tables.specs.declared.Member.the-variants as member
@@ -43,6 +44,11 @@ tallyAt i k s p e = tally (λ q. scan i s q e) (most-items - k) k p e
 
 unfoldable pub manyAt : Item → Field → ℕ → List ℕ → ℕ → ℕ → List ℕ → List ℕ
 manyAt i f k s p e d = manyMarks (λ q. scan i s q e) (λ j q x. marks i f j s q e x) (most-items - k) k p e d
+
+-- a list whose items are counted ends where it ends
+abbrev pub counted : ℕ → Tally → Step
+counted e (Items n) = Next e
+counted e (Uncounted n p) = Refused n p
 
 -- a step as what a caller is told
 abbrev pub outcomeOf : Step → Outcome
