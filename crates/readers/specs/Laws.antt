@@ -51,7 +51,7 @@ use Rattle.layouts.specs.Fields.{fields}
 use Rattle.layouts.specs.Laws.Places.{placed}
 use Rattle.layouts.specs.Laws.Marks.{accept-marks}
 use Rattle.layouts.specs.Marks.{afterSeen, afterStep, thenTally, tally, manyMarks, leafMarks, marks, marksAll, recordMarks}
-use Rattle.readers.specs.Machine.{memberAt, memberMarks, tallyAt, manyAt, counted, outcomeOf}
+use Rattle.readers.specs.Machine.{leafWalk, itemWalk, rowWalk, memberWalk, listWalk, recordWalk, counted, outcomeOf}
 
 -- ---- a number that falls from an item to what stands in it
 
@@ -147,77 +147,87 @@ tally-many f (suc n) j p e = go (λ q. tally-many f n (suc j) q e) (ltb p e) (f 
     go h true (Refused m q) = refl
     go h false x = refl
 
+-- two answers at once, and each of them
+both : {A : Type 0} {x y : A} {d d′ : List ℕ} → x ≡ y → d ≡ d′ → _≡_ {A = A × List ℕ} (x, d) (y, d′)
+both e f = rw (e, f) refl
+
+answers : {A : Type 0} {x y : A × List ℕ} → x ≡ y → x .0 ≡ y .0
+answers {A} h = ap (λ (z : A × List ℕ). z .0) h
+
+tables : {A : Type 0} {x y : A × List ℕ} → x ≡ y → x .1 ≡ y .1
+tables {A} h = ap (λ (z : A × List ℕ). z .1) h
+
 module _ (f : Field) (n : ℕ) (s : List ℕ) (p e : ℕ) (d : List ℕ) where
-  -- what a function answers, and the table after it, are what reading the item answers and notes
-  abbrev Reads : Item → Step → List ℕ → Type 0
-  Reads i y d′ = (y ≡ scan i s p e) × (d′ ≡ marks i f n s p e d)
-
   module _ (l : Form) (h : Seen) (j : h ≡ leafAt (leafOf l) s p e) where
-    pub leaf-refused : (m q : ℕ) (y : Step) → h ≡ Bad m q → y ≡ pastOf h → (y ≡ scan (leaf (leafOf l)) s p e) × (d ≡ leafMarks (leafOf l) f n s p e d)
-    unfolding scan leafMarks
-    leaf-refused m q y b g = (rw (← j) (g ∙ passed h), rw (← j, b))
+    pub leaf-refused : (m q : ℕ) (y : Step) → h ≡ Bad m q → y ≡ pastOf h → (y, d) ≡ leafWalk l f n s p e d
+    unfolding leafWalk scan leafMarks
+    leaf-refused m q y b g = both (rw (← j) (g ∙ passed h)) (rw (← j, b))
 
-    pub leaf-taken : (a z i : ℕ) (d′ : List ℕ) → h ≡ At a z → i ≡ leafOf l .hidden → d′ ≡ noted f n (a + i) z 0 d
-        → (Next z ≡ scan (leaf (leafOf l)) s p e) × (d′ ≡ leafMarks (leafOf l) f n s p e d)
-    unfolding scan leafMarks
-    leaf-taken a z i d′ b o g = (rw (← j, b), rw (← j, b, ← o) g)
+    pub leaf-taken : (a z i : ℕ) (d′ : List ℕ) → h ≡ At a z → i ≡ leafOf l .hidden → d′ ≡ noted f n (a + i) z 0 d → (Next z, d′) ≡ leafWalk l f n s p e d
+    unfolding leafWalk scan leafMarks
+    leaf-taken a z i d′ b o g = both (rw (← j, b)) (rw (← j, b, ← o) g)
 
     -- a content starts in the slice
     pub leaf-inside : (a z : ℕ) → h ≡ At a z → a ≤ length s
     leaf-inside a z b = rule-inside (leafOf l .tag) (leafOf l .rule) s p e a z (sym j ∙ b)
 
   module _ (x : Shape) (k : Kind) (l : layoutOf x ≡ itemOf x k) where
-    pub item-leaf : (c : Form) (y : Step) (d′ : List ℕ) → k ≡ kind.Leaf c → y ≡ scan (leaf (leafOf c)) s p e → d′ ≡ leafMarks (leafOf c) f n s p e d → Reads (layoutOf x) y d′
-    unfolding marks
-    item-leaf c y d′ i g o = (rw (l, i) g, rw (l, i) o)
+    abbrev Reads : Step → List ℕ → Type 0
+    Reads y d′ = (y, d′) ≡ itemWalk (layoutOf x) f n s p e d
+
+    pub item-leaf : (c : Form) (y : Step) (d′ : List ℕ) → k ≡ kind.Leaf c → (y, d′) ≡ leafWalk c f n s p e d → Reads y d′
+    unfolding itemWalk leafWalk marks
+    item-leaf c y d′ i g = both (rw (l, i) (answers g)) (rw (l, i) (tables g))
 
     module _ (t : Tag) (h : Seen) (j : h ≡ headAt (tagByte t) s p e) where
       module _ (i : k ≡ kind.Node t) where
-        pub node-refused : (m q : ℕ) (y : Step) → h ≡ Bad m q → y ≡ pastOf h → Reads (layoutOf x) y d
-        unfolding scan marks
-        node-refused m q y b g = (rw (l, i, ← j, b) (g ∙ ap pastOf b), rw (l, i, ← j, b))
+        pub node-refused : (m q : ℕ) (y : Step) → h ≡ Bad m q → y ≡ pastOf h → Reads y d
+        unfolding itemWalk scan marks
+        node-refused m q y b g = both (rw (l, i, ← j, b) (g ∙ ap pastOf b)) (rw (l, i, ← j, b))
 
-        pub node-members : (a z : ℕ) (y : Step) (d₁ d₂ : List ℕ) → h ≡ At a z → d₁ ≡ noted f n p z 0 d → y ≡ scans (inner (layoutOf x)) s a z → d₂ ≡ marksAll (inner (layoutOf x)) n s a z d₁
-            → Reads (layoutOf x) y d₂
-        unfolding scan marks
-        node-members a z y d₁ d₂ b o g u =
-            let q : layoutOf x ≡ itemOf x (kind.Node t) = l ∙ ap (itemOf x) i in (
-              g ∙ sym (ap (λ (m : Item). scan m s p e) q ∙ rw (← j, b)),
-              u ∙ ap (marksAll (inner (layoutOf x)) n s a z) o ∙ sym (ap (λ (m : Item). marks m f n s p e d) q ∙ rw (← j, b)),
-            )
+        pub node-members : (a z : ℕ) (y : Step) (d₁ d₂ : List ℕ) → h ≡ At a z → d₁ ≡ noted f n p z 0 d → (y, d₂) ≡ rowWalk (inner (layoutOf x)) n s a z d₁ → Reads y d₂
+        unfolding itemWalk rowWalk scan marks
+        node-members a z y d₁ d₂ b o g =
+            let q : layoutOf x ≡ itemOf x (kind.Node t) = l ∙ ap (itemOf x) i in
+            both (answers g ∙ sym (ap (λ (m : Item). scan m s p e) q ∙ rw (← j, b)))
+            (tables g ∙ ap (marksAll (inner (layoutOf x)) n s a z) o ∙ sym (ap (λ (m : Item). marks m f n s p e d) q ∙ rw (← j, b)))
 
       module _ (o : Bool) (g : Field) (u : Shape) (i : k ≡ kind.List t o g u) where
-        pub list-refused : (m q : ℕ) (y : Step) → h ≡ Bad m q → y ≡ pastOf h → Reads (layoutOf x) y d
-        unfolding scan marks
-        list-refused m q y b r = (rw (l, i, ← j, b) (r ∙ ap pastOf b), rw (l, i, ← j, b))
+        pub list-refused : (m q : ℕ) (y : Step) → h ≡ Bad m q → y ≡ pastOf h → Reads y d
+        unfolding itemWalk scan marks
+        list-refused m q y b r = both (rw (l, i, ← j, b) (r ∙ ap pastOf b)) (rw (l, i, ← j, b))
 
         module _ (a z : ℕ) (b : h ≡ At a z) (v : Bool) (w : v ≡ o || ltb a z) where
-          pub list-none : v ≡ false → Reads (layoutOf x) (Refused no-item p) d
-          unfolding scan marks pick
-          list-none q = (rw (l, i, ← j, b, ← w, q), rw (l, i, ← j, b, ← w, q))
+          pub list-none : v ≡ false → Reads (Refused no-item p) d
+          unfolding itemWalk scan marks pick
+          list-none q = both (rw (l, i, ← j, b, ← w, q)) (rw (l, i, ← j, b, ← w, q))
 
-          module _ (q : v ≡ true) (c : Tally) (d₁ : List ℕ) (r : c ≡ tallyAt (layoutOf u) 0 s a z) (m : d₁ ≡ manyAt (layoutOf u) g 0 s a z d) where
-            pub list-bad : (n q : ℕ) → c ≡ Uncounted n q → Reads (layoutOf x) (Refused n q) d₁
-            unfolding scan marks pick tallyAt manyAt
-            list-bad n′ q′ y = (rw (l, i, ← j, b, ← w, q, tally-many (λ q. scan (layoutOf u) s q z) 64 0 a z, ← r, y), rw (l, i, ← j, b, ← w, q, ← r, y) m)
+          module _ (q : v ≡ true) (c : Tally) (d₁ : List ℕ) (r : (c, d₁) ≡ listWalk (layoutOf u) g 0 s a z d) where
+            pub list-bad : (n q : ℕ) → c ≡ Uncounted n q → Reads (Refused n q) d₁
+            unfolding itemWalk listWalk scan marks pick
+            list-bad n′ q′ y =
+                both (rw (l, i, ← j, b, ← w, q, tally-many (λ q. scan (layoutOf u) s q z) 64 0 a z, ← answers r, y))
+                (rw (l, i, ← j, b, ← w, q, ← answers r, y) (tables r))
 
-            pub list-all : (n′ : ℕ) (d₂ : List ℕ) → c ≡ Items n′ → d₂ ≡ noted f n p z n′ d₁ → Reads (layoutOf x) (Next z) d₂
-            unfolding scan marks pick tallyAt manyAt
-            list-all n′ d₂ y y′ = (rw (l, i, ← j, b, ← w, q, tally-many (λ q. scan (layoutOf u) s q z) 64 0 a z, ← r, y), rw (l, i, ← j, b, ← w, q, ← r, y, ← m) y′)
+            pub list-all : (n′ : ℕ) (d₂ : List ℕ) → c ≡ Items n′ → d₂ ≡ noted f n p z n′ d₁ → Reads (Next z) d₂
+            unfolding itemWalk listWalk scan marks pick
+            list-all n′ d₂ y y′ =
+                both (rw (l, i, ← j, b, ← w, q, tally-many (λ q. scan (layoutOf u) s q z) 64 0 a z, ← answers r, y))
+                (rw (l, i, ← j, b, ← w, q, ← answers r, y, ← tables r) y′)
 
       module _ (u : Shape) (i : k ≡ kind.Wrap t u) where
-        pub wrap-refused : (m q : ℕ) (y : Step) → h ≡ Bad m q → y ≡ pastOf h → Reads (layoutOf x) y d
-        unfolding scan marks
-        wrap-refused m q y b g = (rw (l, i, ← j, b) (g ∙ ap pastOf b), rw (l, i, ← j, b))
+        pub wrap-refused : (m q : ℕ) (y : Step) → h ≡ Bad m q → y ≡ pastOf h → Reads y d
+        unfolding itemWalk scan marks
+        wrap-refused m q y b g = both (rw (l, i, ← j, b) (g ∙ ap pastOf b)) (rw (l, i, ← j, b))
 
-        module _ (a z : ℕ) (b : h ≡ At a z) (r : Step) (d₁ : List ℕ) (w : r ≡ scan (layoutOf u) s a z) (m : d₁ ≡ marks (layoutOf u) f n s a z d) where
-          pub wrap-inner : (n q : ℕ) → r ≡ Refused n q → Reads (layoutOf x) r d₁
-          unfolding scan marks
-          wrap-inner n′ q o = (rw (l, i, ← j, b, ← w, o), rw (l, i, ← j, b) m)
+        module _ (a z : ℕ) (b : h ≡ At a z) (r : Step) (d₁ : List ℕ) (w : (r, d₁) ≡ itemWalk (layoutOf u) f n s a z d) where
+          pub wrap-inner : (n q : ℕ) → r ≡ Refused n q → Reads r d₁
+          unfolding itemWalk scan marks
+          wrap-inner n′ q o = both (rw (l, i, ← j, b, ← answers w, o)) (rw (l, i, ← j, b) (tables w))
 
-          pub wrap-close : (q : ℕ) (y : Step) → r ≡ Next q → y ≡ closeAt q z → Reads (layoutOf x) y d₁
-          unfolding scan marks
-          wrap-close q y o g = (rw (l, i, ← j, b, ← w, o) g, rw (l, i, ← j, b) m)
+          pub wrap-close : (q : ℕ) (y : Step) → r ≡ Next q → y ≡ closeAt q z → Reads y d₁
+          unfolding itemWalk scan marks
+          wrap-close q y o g = both (rw (l, i, ← j, b, ← answers w, o) g) (rw (l, i, ← j, b) (tables w))
 
 pub node-less : (x : Shape) (k : Kind) (t : Tag) → layoutOf x ≡ itemOf x k → k ≡ kind.Node t → suc (sizes (inner (layoutOf x))) < size (layoutOf x)
 unfolding size
@@ -253,46 +263,46 @@ known-word word.Four s p e = refl
 
 module _ (m : Member) (n : ℕ) (s : List ℕ) (p e : ℕ) (d : List ℕ) where
   abbrev ReadsPart : Step → List ℕ → Type 0
-  ReadsPart y d′ = (y ≡ memberAt m s p e) × (d′ ≡ memberMarks m n s p e d)
+  ReadsPart y d′ = (y, d′) ≡ memberWalk m n s p e d
 
   pub member-blank : m ≡ member.Blank → ReadsPart (Next p) d
-  unfolding memberAt memberMarks
-  member-blank i = (rw i, rw i)
+  unfolding memberWalk
+  member-blank i = rw i refl
 
   pub member-known : (w : Word) (h : Seen) (y : Step) → m ≡ member.Known w → h ≡ ruleAt (wordTag w) (wordRule w) s p e → y ≡ pastOf h → ReadsPart y d
-  unfolding memberAt memberMarks
-  member-known w h y i j g = (rw i (g ∙ passed h ∙ ap (λ (x : Seen). thenSeen x λ a z. Next z) j ∙ sym (known-word w s p e)), rw i)
+  unfolding memberWalk
+  member-known w h y i j g = rw i (both (g ∙ passed h ∙ ap (λ (x : Seen). thenSeen x λ a z. Next z) j ∙ sym (known-word w s p e)) refl)
 
-  pub member-leaf : (f : Field) (l : Form) (y : Step) (d′ : List ℕ) → m ≡ member.Leaf f l → y ≡ scan (leaf (leafOf l)) s p e → d′ ≡ leafMarks (leafOf l) f n s p e d → ReadsPart y d′
-  unfolding memberAt memberMarks
-  member-leaf f l y d′ i g o = (rw i g, rw i o)
+  pub member-leaf : (f : Field) (l : Form) (y : Step) (d′ : List ℕ) → m ≡ member.Leaf f l → (y, d′) ≡ leafWalk l f n s p e d → ReadsPart y d′
+  unfolding memberWalk
+  member-leaf f l y d′ i g = rw i g
 
-  pub member-part : (f : Field) (x : Shape) (y : Step) (d′ : List ℕ) → m ≡ member.Part f x → y ≡ scan (layoutOf x) s p e → d′ ≡ marks (layoutOf x) f n s p e d → ReadsPart y d′
-  unfolding memberAt memberMarks
-  member-part f x y d′ i g o = (g ∙ sym (ap (λ (k : Member). memberAt k s p e) i), o ∙ sym (ap (λ (k : Member). memberMarks k n s p e d) i))
+  pub member-part : (f : Field) (x : Shape) (y : Step) (d′ : List ℕ) → m ≡ member.Part f x → (y, d′) ≡ itemWalk (layoutOf x) f n s p e d → ReadsPart y d′
+  unfolding memberWalk
+  member-part f x y d′ i g = g ∙ sym (ap (λ (k : Member). memberWalk k n s p e d) i)
 
   module _ (f : Field) (x : Shape) (t : Tag) (b : Bool) (i : m ≡ member.Maybe f x) (j : tagByte t ≡ tagOf (layoutOf x)) (h : b ≡ beginsAt (tagByte t) s p e) where
-    pub maybe-yes : (y : Step) (d′ : List ℕ) → b ≡ true → y ≡ scan (layoutOf x) s p e → d′ ≡ marks (layoutOf x) f n s p e d → ReadsPart y d′
-    unfolding memberAt memberMarks scan marks pick
-    maybe-yes y d′ o g u = (rw (i, ← j, ← h, o) g, rw (i, ← j, ← h, o) u)
+    pub maybe-yes : (y : Step) (d′ : List ℕ) → b ≡ true → (y, d′) ≡ itemWalk (layoutOf x) f n s p e d → ReadsPart y d′
+    unfolding memberWalk itemWalk scan marks pick
+    maybe-yes y d′ o g = rw i (both (rw (← j, ← h, o) (answers g)) (rw (← j, ← h, o) (tables g)))
 
     pub maybe-no : b ≡ false → ReadsPart (Next p) d
-    unfolding memberAt memberMarks scan marks pick
-    maybe-no o = (rw (i, ← j, ← h, o), rw (i, ← j, ← h, o))
+    unfolding memberWalk scan marks pick
+    maybe-no o = rw i (both (rw (← j, ← h, o)) (rw (← j, ← h, o)))
 
   module _ (f : Field) (b : Bool) (i : m ≡ member.Flag f) (h : b ≡ beginsAt (tagByte tag.Boolean) s p e) where
-    pub flag-yes : (y : Step) (d′ : List ℕ) → b ≡ true → y ≡ scan (leaf (leafOf form.Critical)) s p e → d′ ≡ leafMarks (leafOf form.Critical) f n s p e d → ReadsPart y d′
-    unfolding memberAt memberMarks scan marks pick
-    flag-yes y d′ o g u = (rw (i, ← h, o) g, rw (i, ← h, o) u)
+    pub flag-yes : (y : Step) (d′ : List ℕ) → b ≡ true → (y, d′) ≡ leafWalk form.Critical f n s p e d → ReadsPart y d′
+    unfolding memberWalk leafWalk scan marks pick
+    flag-yes y d′ o g = rw i (both (rw (← h, o) (answers g)) (rw (← h, o) (tables g)))
 
     pub flag-no : b ≡ false → ReadsPart (Next p) d
-    unfolding memberAt memberMarks scan marks pick
-    flag-no o = (rw (i, ← h, o), rw (i, ← h, o))
+    unfolding memberWalk scan marks pick
+    flag-no o = rw i (both (rw (← h, o)) (rw (← h, o)))
 
   module _ (f g : Field) (x u : Shape) (h : Seen) (i : m ≡ member.Kinds f g x u) (j : h ≡ leafAt (leafOf form.ListKind) s p e) where
     pub kinds-refused : (k q : ℕ) (y : Step) → h ≡ Bad k q → y ≡ pastOf h → ReadsPart y d
-    unfolding memberAt memberMarks scan marks
-    kinds-refused k q y b o = (rw (i, ← j, b) (o ∙ ap pastOf b), rw (i, ← j, b))
+    unfolding memberWalk scan marks
+    kinds-refused k q y b o = rw i (both (rw (← j, b) (o ∙ ap pastOf b)) (rw (← j, b)))
 
     module _ (a z : ℕ) (b : h ≡ At a z) (t : Bool) (o : t ≡ isOne (slice a z s)) (d₁ : List ℕ) (w : d₁ ≡ noted f n a z 0 d) where
       -- what is noted of the kind
@@ -300,13 +310,13 @@ module _ (m : Member) (n : ℕ) (s : List ℕ) (p e : ℕ) (d : List ℕ) where
       unfolding leafMarks
       kind-marks = rw (← j, b) (w ∙ ap (λ (c : ℕ). noted f n c z 0 d) (omega arith))
 
-      pub kinds-one : (y : Step) (d′ : List ℕ) → t ≡ true → y ≡ scan (layoutOf x) s z e → d′ ≡ marks (layoutOf x) g n s z e d₁ → ReadsPart y d′
-      unfolding memberAt memberMarks scan marks pick
-      kinds-one y d′ v q r = (rw (i, ← j, b, ← one-is s p e a z h j b, ← o, v) q, rw (i, ← kind-marks, ← j, b, ← one-is s p e a z h j b, ← o, v) r)
+      pub kinds-one : (y : Step) (d′ : List ℕ) → t ≡ true → (y, d′) ≡ itemWalk (layoutOf x) g n s z e d₁ → ReadsPart y d′
+      unfolding memberWalk itemWalk scan marks pick
+      kinds-one y d′ v q = rw i (both (rw (← j, b, ← one-is s p e a z h j b, ← o, v) (answers q)) (rw (← kind-marks, ← j, b, ← one-is s p e a z h j b, ← o, v) (tables q)))
 
-      pub kinds-two : (y : Step) (d′ : List ℕ) → t ≡ false → y ≡ scan (layoutOf u) s z e → d′ ≡ marks (layoutOf u) g n s z e d₁ → ReadsPart y d′
-      unfolding memberAt memberMarks scan marks pick
-      kinds-two y d′ v q r = (rw (i, ← j, b, ← one-is s p e a z h j b, ← o, v) q, rw (i, ← kind-marks, ← j, b, ← one-is s p e a z h j b, ← o, v) r)
+      pub kinds-two : (y : Step) (d′ : List ℕ) → t ≡ false → (y, d′) ≡ itemWalk (layoutOf u) g n s z e d₁ → ReadsPart y d′
+      unfolding memberWalk itemWalk scan marks pick
+      kinds-two y d′ v q = rw i (both (rw (← j, b, ← one-is s p e a z h j b, ← o, v) (answers q)) (rw (← kind-marks, ← j, b, ← one-is s p e a z h j b, ← o, v) (tables q)))
 
 -- what a member holds is smaller
 module _ (m : Member) where
@@ -329,27 +339,19 @@ module _ (m : Member) where
 -- ---- a row
 
 -- a row is its first member, then the rest
-row-split : (m : Member) (ms : List Member) (s : List ℕ) (p e : ℕ) → scans (membersOf (m ∷ ms)) s p e ≡ (thenStep (memberAt m s p e) λ q. scans (membersOf ms) s q e)
-unfolding scan memberAt
-row-split member.Blank ms s p e = refl
-row-split (member.Known w) ms s p e = refl
-row-split (member.Leaf f l) ms s p e = refl
-row-split (member.Part f x) ms s p e = refl
-row-split (member.Maybe f x) ms s p e = refl
-row-split (member.Flag f) ms s p e = refl
-row-split (member.Kinds f g x y) ms s p e = refl
+abbrev onward : Step × List ℕ → (ℕ → List ℕ → Step × List ℕ) → Step × List ℕ
+onward w k = (thenStep (w .0) λ q. k q (w .1) .0, afterStep (w .0) (w .1) λ q. k q (w .1) .1)
 
-marks-split : (m : Member) (ms : List Member) (n : ℕ) (s : List ℕ) (p e : ℕ) (d : List ℕ)
-    → marksAll (membersOf (m ∷ ms)) n s p e d ≡ (afterStep (memberAt m s p e) (memberMarks m n s p e d) λ q. marksAll (membersOf ms) n s q e (memberMarks m n s p e d))
-unfolding scan marks memberAt memberMarks
-marks-split member.Blank ms n s p e d = refl
-marks-split (member.Known word.Es) ms n s p e d = refl
-marks-split (member.Known word.Four) ms n s p e d = refl
-marks-split (member.Leaf f l) ms n s p e d = refl
-marks-split (member.Part f x) ms n s p e d = refl
-marks-split (member.Maybe f x) ms n s p e d = refl
-marks-split (member.Flag f) ms n s p e d = refl
-marks-split (member.Kinds f g x y) ms n s p e d = refl
+row-split : (m : Member) (ms : List Member) (n : ℕ) (s : List ℕ) (p e : ℕ) (d : List ℕ) → rowWalk (membersOf (m ∷ ms)) n s p e d ≡ (onward (memberWalk m n s p e d) λ q t. rowWalk (membersOf ms) n s q e t)
+unfolding rowWalk memberWalk itemWalk leafWalk scan marks
+row-split member.Blank ms n s p e d = refl
+row-split (member.Known word.Es) ms n s p e d = refl
+row-split (member.Known word.Four) ms n s p e d = refl
+row-split (member.Leaf f l) ms n s p e d = refl
+row-split (member.Part f x) ms n s p e d = refl
+row-split (member.Maybe f x) ms n s p e d = refl
+row-split (member.Flag f) ms n s p e d = refl
+row-split (member.Kinds f g x y) ms n s p e d = refl
 
 size-split : (m : Member) (ms : List Member) → sizeOf m + sizes (membersOf ms) ≤ sizes (membersOf (m ∷ ms))
 unfolding size sizeOf
@@ -370,20 +372,16 @@ module _ (ms : List Member) (d : Member) (k : ℕ) (n : length ms ≡ 6) (r : k 
   at-k : drop k ms ≡ getD ms k d ∷ drop (k + 1) ms
   at-k = drop-cons ms k d (omega arith) ∙ ap (λ (n : ℕ). getD ms k d ∷ drop n ms) (sym (add-one k))
 
-  module _ (i : ℕ) (s : List ℕ) (p e : ℕ) (t : List ℕ) (x : Step) (t′ : List ℕ) (g : x ≡ memberAt (getD ms k d) s p e) (o : t′ ≡ memberMarks (getD ms k d) i s p e t) where
-    pub row-refused : (n q : ℕ) → x ≡ Refused n q → (x ≡ scans (from k ms) s p e) × (t′ ≡ marksAll (from k ms) i s p e t)
+  module _ (i : ℕ) (s : List ℕ) (p e : ℕ) (t : List ℕ) (x : Step) (t′ : List ℕ) (g : (x, t′) ≡ memberWalk (getD ms k d) i s p e t) where
+    row-step : rowWalk (from k ms) i s p e t ≡ (onward (x, t′) λ q t. rowWalk (from (k + 1) ms) i s q e t)
     unfolding from
-    row-refused n q h = (
-      rw (at-k, row-split (getD ms k d) (drop (k + 1) ms) s p e, ← g, h),
-      rw (at-k, marks-split (getD ms k d) (drop (k + 1) ms) i s p e t, ← g, h) o,
-    )
+    row-step = rw (at-k, row-split (getD ms k d) (drop (k + 1) ms) i s p e t, ← g) refl
 
-    pub row-next : (q : ℕ) → x ≡ Next q → (scans (from k ms) s p e ≡ scans (from (k + 1) ms) s q e) × (marksAll (from k ms) i s p e t ≡ marksAll (from (k + 1) ms) i s q e t′)
-    unfolding from
-    row-next q h = (
-      rw (at-k, row-split (getD ms k d) (drop (k + 1) ms) s p e, ← g, h),
-      rw (at-k, marks-split (getD ms k d) (drop (k + 1) ms) i s p e t, ← g, h, ← o),
-    )
+    pub row-refused : (n q : ℕ) → x ≡ Refused n q → (x, t′) ≡ rowWalk (from k ms) i s p e t
+    row-refused n q h = rw (row-step, h) refl
+
+    pub row-next : (q : ℕ) → x ≡ Next q → rowWalk (from k ms) i s p e t ≡ rowWalk (from (k + 1) ms) i s q e t′
+    row-next q h = rw (row-step, h) refl
 
   row-less : sizeOf (getD ms k d) + sizes (from (k + 1) ms) ≤ sizes (from k ms)
   unfolding from
@@ -402,80 +400,67 @@ drop-all [] k h = drop-nil k
 drop-all (x ∷ ms) zero h = absurd (omega arith)
 drop-all (x ∷ ms) (suc k) h = drop-all ms k (omega arith)
 
-pub row-over : (ms : List Member) (i : ℕ) (s : List ℕ) (p e k : ℕ) (t : List ℕ) (y : Step) → length ms ≡ 6 → 6 ≤ k → y ≡ closeAt p e → (y ≡ scans (from k ms) s p e) × (t ≡ marksAll (from k ms) i s p e t)
-unfolding from scan marks
-row-over ms i s p e k t y n h g = (rw (drop-all ms k (omega arith)) g, rw (drop-all ms k (omega arith)))
+pub row-over : (ms : List Member) (i : ℕ) (s : List ℕ) (p e k : ℕ) (t : List ℕ) (y : Step) → length ms ≡ 6 → 6 ≤ k → y ≡ closeAt p e → (y, t) ≡ rowWalk (from k ms) i s p e t
+unfolding rowWalk from scan marks
+row-over ms i s p e k t y n h g = rw (drop-all ms k (omega arith)) (both g refl)
 
-pub row-first : (ms : List Member) (i : ℕ) (s : List ℕ) (p e : ℕ) (t : List ℕ) → (scans (membersOf ms) s p e ≡ scans (from 0 ms) s p e) × (marksAll (membersOf ms) i s p e t ≡ marksAll (from 0 ms) i s p e t)
+pub row-first : (ms : List Member) (i : ℕ) (s : List ℕ) (p e : ℕ) (t : List ℕ) → rowWalk (membersOf ms) i s p e t ≡ rowWalk (from 0 ms) i s p e t
 unfolding from
-row-first ms i s p e t = (refl, refl)
+row-first ms i s p e t = refl
 
 pub size-first : (ms : List Member) → sizes (from 0 ms) ≤ sizes (membersOf ms)
 unfolding from
 size-first ms = omega arith
 
-module _ (x : Shape) (ms : List Member) (k i : ℕ) (s : List ℕ) (a p e : ℕ) (t₀ t : List ℕ) where
-  -- what is left to do from here is the whole row
-  abbrev pub Left : Type 0
-  Left = (scans (membersOf ms) s a e ≡ scans (from k ms) s p e) × (marksAll (membersOf ms) i s a e t₀ ≡ marksAll (from k ms) i s p e t)
+pub row-whole : (x : Shape) (ms : List Member) (i : ℕ) (s : List ℕ) (a e k p : ℕ) (t₀ t : List ℕ) (y : Step × List ℕ) → inner (layoutOf x) ≡ membersOf ms
+    → rowWalk (membersOf ms) i s a e t₀ ≡ rowWalk (from k ms) i s p e t → y ≡ rowWalk (from k ms) i s p e t → y ≡ rowWalk (inner (layoutOf x)) i s a e t₀
+row-whole x ms i s a e k p t₀ t y h g f = f ∙ sym g ∙ ap (λ (r : Members). rowWalk r i s a e t₀) (sym h)
 
-  pub row-whole : (y : Step) (t′ : List ℕ) → inner (layoutOf x) ≡ membersOf ms → Left → (y ≡ scans (from k ms) s p e) × (t′ ≡ marksAll (from k ms) i s p e t)
-      → (y ≡ scans (inner (layoutOf x)) s a e) × (t′ ≡ marksAll (inner (layoutOf x)) i s a e t₀)
-  row-whole y t′ h g f = (
-    f .0 ∙ sym (g .0) ∙ ap (λ (r : Members). scans r s a e) (sym h),
-    f .1 ∙ sym (g .1) ∙ ap (λ (r : Members). marksAll r i s a e t₀) (sym h),
-  )
+pub chain : {A : Type 0} (x y z : A) → x ≡ y → y ≡ z → x ≡ z
+chain x y z e f = e ∙ f
+
+pub over : {A : Type 0} (x y z : A) → x ≡ y → z ≡ y → z ≡ x
+over x y z e f = f ∙ sym e
 
 -- ---- a list's items
 
-module _ (i : Item) (f : Field) (s : List ℕ) (e : ℕ) (k p : ℕ) (d : List ℕ) where
-  abbrev pub Lists : Tally → List ℕ → Type 0
-  Lists y d′ = (y ≡ tallyAt i k s p e) × (d′ ≡ manyAt i f k s p e d)
-
+module _ (i : Item) (f : Field) (s : List ℕ) (e k p : ℕ) (d : List ℕ) where
   fewer : (k ≡ 64 → ⊥) → k ≤ 64 → 64 - k ≡ suc (64 - (k + 1))
   fewer h l = omega (arith, h)
 
-  pub many-16 : k ≡ 64 → p < e → Lists (Uncounted too-many-items p) d
-  unfolding tallyAt manyAt tally manyMarks pick
-  many-16 z h = (rw (z, lt-ltb p e h), rw z)
+  pub many-16 : k ≡ 64 → p < e → (Uncounted too-many-items p, d) ≡ listWalk i f k s p e d
+  unfolding listWalk tally manyMarks pick
+  many-16 z h = both (rw (z, lt-ltb p e h)) (rw z)
 
-  pub many-bad : (m q : ℕ) (x : Step) (d′ : List ℕ) → (k ≡ 64 → ⊥) → k ≤ 64 → p < e → x ≡ scan i s p e → d′ ≡ marks i f k s p e d → x ≡ Refused m q → Lists (Uncounted m q) d′
-  unfolding tallyAt manyAt tally manyMarks pick
-  many-bad m q x d′ z l h g o j = (rw (fewer z l, lt-ltb p e h, ← g, j), rw (fewer z l, lt-ltb p e h, ← g, j) o)
+  module _ (x : Step) (d′ : List ℕ) (z : k ≡ 64 → ⊥) (l : k ≤ 64) (h : p < e) (g : (x, d′) ≡ itemWalk i f k s p e d) where
+    pub many-bad : (m q : ℕ) → x ≡ Refused m q → (Uncounted m q, d′) ≡ listWalk i f k s p e d
+    unfolding listWalk itemWalk tally manyMarks pick
+    many-bad m q j = both (rw (fewer z l, lt-ltb p e h, ← answers g, j)) (rw (fewer z l, lt-ltb p e h, ← answers g, j) (tables g))
 
-  pub many-on : (q : ℕ) (x : Step) (d′ : List ℕ) → (k ≡ 64 → ⊥) → k ≤ 64 → p < e → x ≡ scan i s p e → d′ ≡ marks i f k s p e d → x ≡ Next q
-      → (tallyAt i k s p e ≡ tallyAt i (k + 1) s q e) × (manyAt i f k s p e d ≡ manyAt i f (k + 1) s q e d′)
-  unfolding tallyAt manyAt tally manyMarks pick
-  many-on q x d′ z l h g o j =
-      let r : k + 1 ≡ suc k = add-one k in
-      (rw (fewer z l, lt-ltb p e h, ← g, j, r), rw (fewer z l, lt-ltb p e h, ← g, j, ← o, r))
+    pub many-on : (q : ℕ) → x ≡ Next q → listWalk i f k s p e d ≡ listWalk i f (k + 1) s q e d′
+    unfolding listWalk itemWalk tally manyMarks pick
+    many-on q j =
+        let r : k + 1 ≡ suc k = add-one k in
+        both (rw (fewer z l, lt-ltb p e h, ← answers g, j, r)) (rw (fewer z l, lt-ltb p e h, ← answers g, j, ← tables g, r))
 
-  pub many-end : e ≤ p → Lists (Items k) d
-  unfolding tallyAt manyAt tally manyMarks pick
+  pub many-end : e ≤ p → (Items k, d) ≡ listWalk i f k s p e d
+  unfolding listWalk tally manyMarks pick
   many-end h = go (64 - k)
     where
-      go : (n : ℕ) → (Items k ≡ tally (λ q. scan i s q e) n k p e) × (d ≡ manyMarks (λ q. scan i s q e) (λ j q x. marks i f j s q e x) n k p e d)
-      go zero = (rw (le-ltb p e h), refl)
-      go (suc n) = (rw (le-ltb p e h), rw (le-ltb p e h))
-
--- what is left from here is the whole list
-module _ (i : Item) (f : Field) (s : List ℕ) (a e : ℕ) (d₀ : List ℕ) where
-  abbrev pub LeftMany : ℕ → ℕ → List ℕ → Type 0
-  LeftMany k p d = (tallyAt i 0 s a e ≡ tallyAt i k s p e) × (manyAt i f 0 s a e d₀ ≡ manyAt i f k s p e d)
-
-  pub many-whole : (k p : ℕ) (d : List ℕ) (y : Tally) (d′ : List ℕ) → LeftMany k p d → (y ≡ tallyAt i k s p e) × (d′ ≡ manyAt i f k s p e d) → (y ≡ tallyAt i 0 s a e) × (d′ ≡ manyAt i f 0 s a e d₀)
-  many-whole k p d y d′ g h = (h .0 ∙ sym (g .0), h .1 ∙ sym (g .1))
+      go : (n : ℕ) → _≡_ {A = Tally × List ℕ} (Items k, d) (tally (λ q. scan i s q e) n k p e, manyMarks (λ q. scan i s q e) (λ j q x. marks i f j s q e x) n k p e d)
+      go zero = both (rw (le-ltb p e h)) refl
+      go (suc n) = both (rw (le-ltb p e h)) (rw (le-ltb p e h))
 
 -- ---- a record
 
-module _ (most : ℕ) (r : Members) (s : List ℕ) (p e : ℕ) (d : List ℕ) (h : Seen) (j : h ≡ outermostAt most sequence s p e) where
-  pub record-refused : (n q : ℕ) (y : Step) → h ≡ Bad n q → y ≡ pastOf h → (y ≡ recordScan most r s p e) × (d ≡ recordMarks most r s p e d)
-  unfolding recordScan recordMarks
-  record-refused n q y b g = (rw (← j, b) (g ∙ ap pastOf b), rw (← j, b))
+module _ (r : Members) (s : List ℕ) (p e : ℕ) (d : List ℕ) (h : Seen) (j : h ≡ outermostAt largest-record sequence s p e) where
+  pub record-refused : (n q : ℕ) (y : Step) → h ≡ Bad n q → y ≡ pastOf h → (y, d) ≡ recordWalk r s p e d
+  unfolding recordWalk recordScan recordMarks
+  record-refused n q y b g = both (rw (← j, b) (g ∙ ap pastOf b)) (rw (← j, b))
 
-  pub record-row : (a z : ℕ) (y : Step) (d′ : List ℕ) → h ≡ At a z → y ≡ scans r s a z → d′ ≡ marksAll r 0 s a z d → (y ≡ recordScan most r s p e) × (d′ ≡ recordMarks most r s p e d)
-  unfolding recordScan recordMarks
-  record-row a z y d′ b g o = (rw (← j, b) g, rw (← j, b) o)
+  pub record-row : (a z : ℕ) (y : Step) (d′ : List ℕ) → h ≡ At a z → (y, d′) ≡ rowWalk r 0 s a z d → (y, d′) ≡ recordWalk r s p e d
+  unfolding recordWalk rowWalk recordScan recordMarks
+  record-row a z y d′ b g = both (rw (← j, b) (answers g)) (rw (← j, b) (tables g))
 
 told : {A : Type 0} (n : ℕ) (x : Res A) → toldOutcome (outcomeOf (whole n x)) ≡ answered (λ v. n) x
 told n (good a) = refl
@@ -505,7 +490,11 @@ each-field r s a z m h o = go (accept largest-record r s) refl (sym (whole-accep
     go (good v) q g = rw (accept-marks largest-record r s v q a z o (replicate table-size 0)) (placed (fields r v))
     go (fault n p) q g = let y : _≡_ {A = ℕ} 0 1 = cc in let f : ⊥ = omega arith in absurd f
 
-module _ (r : Members) (s : List ℕ) (x : Step) (h : x ≡ recordScan largest-record r s 0 (length s)) where
+module _ (r : Members) (s : List ℕ) (x : Step) (d : List ℕ) (w : (x, d) ≡ recordWalk r s 0 (length s) (replicate table-size 0)) where
+  h : x ≡ recordScan largest-record r s 0 (length s)
+  unfolding recordWalk
+  h = answers w
+
   module _ (n q : ℕ) (b : x ≡ Refused n q) where
     pub whole-refused : (y : Outcome) → y ≡ outcomeOf x → toldOutcome y ≡ recordAnswer r s
     unfolding wholeScan
@@ -524,9 +513,9 @@ module _ (r : Members) (s : List ℕ) (x : Step) (h : x ≡ recordScan largest-r
     unfolding wholeScan
     places-left n m o = no-field r s n m (rw (← h, b) (sym c ∙ o))
 
-    pub places-whole : (m : ℕ) (d : List ℕ) → z ≡ Next m → d ≡ recordMarks largest-record r s 0 (length s) (replicate table-size 0) → Placed (fieldsIn r s) d
-    unfolding wholeScan recordScan recordMarks
-    places-whole m d o g = go (outermostAt largest-record sequence s 0 (length s)) refl (sym b ∙ h) g
+    pub places-whole : (m : ℕ) → z ≡ Next m → Placed (fieldsIn r s) d
+    unfolding wholeScan recordWalk recordScan recordMarks
+    places-whole m o = go (outermostAt largest-record sequence s 0 (length s)) refl (sym b ∙ h) (tables w)
       where
         go : (k : Seen) → outermostAt largest-record sequence s 0 (length s) ≡ k → Next q ≡ (thenSeen k λ a z. scans r s a z)
             → d ≡ (afterSeen k (replicate table-size 0) λ a z. marksAll r 0 s a z (replicate table-size 0)) → Placed (fieldsIn r s) d

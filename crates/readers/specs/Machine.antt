@@ -2,48 +2,55 @@
 use Prim.Native.Nat.{ℕ, _-_}
 use mathlib.Core.List.{List}
 use Rattle.terms.specs.declared.Field.{Field}
-use Rattle.terms.specs.Numbers.{most-items}
+use Rattle.terms.specs.Numbers.{most-items, largest-record}
 use Rattle.heads.specs.declared.Step.{Step}
 use Rattle.heads.specs.declared.Step.the-variants.{Next, Refused}
 use Rattle.layouts.specs.declared.Outcome.{Outcome}
 use Rattle.layouts.specs.declared.Outcome.the-variants.{Length, Refused as Unread}
 use Rattle.contents.specs.Integer.{value, is}
-use Rattle.layouts.specs.Layout.{Item, leaf, maybe, flag, choose}
-use Rattle.layouts.specs.Scan.{scan, scanPart}
-use Rattle.layouts.specs.Marks.{tally, manyMarks, leafMarks, marks, marksPart}
+use Rattle.layouts.specs.Layout.{Item, leaf, Members, Member as Part, maybe, flag, choose}
+use Rattle.layouts.specs.Scan.{scan, scans, scanPart, recordScan}
+use Rattle.layouts.specs.Marks.{tally, manyMarks, leafMarks, marks, marksAll, marksPart, recordMarks}
 use Rattle.layouts.specs.declared.Tally.{Tally}
 use Rattle.layouts.specs.declared.Tally.the-variants.{Items, Refused as Uncounted}
+use Rattle.tables.specs.declared.Form.{Form}
 use Rattle.tables.specs.declared.Form.the-variants as form
 use Rattle.tables.specs.declared.Member.{Member}
 use Rattle.tables.specs.declared.Member.the-variants as member
 use Rattle.tables.specs.Table.{leafOf, knownOf, layoutOf}
 
+-- ---- what each function answers, and the table of places after it
+
+unfoldable pub leafWalk : Form → Field → ℕ → List ℕ → ℕ → ℕ → List ℕ → Step × List ℕ
+leafWalk l f k s p e d = (scan (leaf (leafOf l)) s p e, leafMarks (leafOf l) f k s p e d)
+
+unfoldable pub itemWalk : Item → Field → ℕ → List ℕ → ℕ → ℕ → List ℕ → Step × List ℕ
+itemWalk i f k s p e d = (scan i s p e, marks i f k s p e d)
+
+unfoldable pub rowWalk : Members → ℕ → List ℕ → ℕ → ℕ → List ℕ → Step × List ℕ
+rowWalk r k s p e d = (scans r s p e, marksAll r k s p e d)
+
 -- a member of a row
-unfoldable pub memberAt : Member → List ℕ → ℕ → ℕ → Step
-memberAt member.Blank s p e = Next p
-memberAt (member.Known w) s p e = scanPart (knownOf w) s p e
-memberAt (member.Leaf f l) s p e = scan (leaf (leafOf l)) s p e
-memberAt (member.Part f x) s p e = scan (layoutOf x) s p e
-memberAt (member.Maybe f x) s p e = scanPart (maybe f (layoutOf x)) s p e
-memberAt (member.Flag f) s p e = scanPart (flag f) s p e
-memberAt (member.Kinds f g x y) s p e = scanPart (choose f (leafOf form.ListKind) (λ c. is 1 (value c)) g (layoutOf x) (layoutOf y)) s p e
+unfoldable pub memberWalk : Member → ℕ → List ℕ → ℕ → ℕ → List ℕ → Step × List ℕ
+memberWalk member.Blank k s p e d = (Next p, d)
+memberWalk (member.Known w) k s p e d = (scanPart (knownOf w) s p e, d)
+memberWalk (member.Leaf f l) k s p e d = leafWalk l f k s p e d
+memberWalk (member.Part f x) k s p e d = itemWalk (layoutOf x) f k s p e d
+memberWalk (member.Maybe f x) k s p e d = (scanPart (maybe f (layoutOf x)) s p e, marksPart (maybe f (layoutOf x)) k s p e d)
+memberWalk (member.Flag f) k s p e d = (scanPart (flag f) s p e, marksPart (flag f) k s p e d)
+memberWalk (member.Kinds f g x y) k s p e d =
+    let m : Part = choose f (leafOf form.ListKind) (λ c. is 1 (value c)) g (layoutOf x) (layoutOf y) in
+    (scanPart m s p e, marksPart m k s p e d)
 
--- what it notes
-unfoldable pub memberMarks : Member → ℕ → List ℕ → ℕ → ℕ → List ℕ → List ℕ
-memberMarks member.Blank k s p e d = d
-memberMarks (member.Known w) k s p e d = d
-memberMarks (member.Leaf f l) k s p e d = leafMarks (leafOf l) f k s p e d
-memberMarks (member.Part f x) k s p e d = marks (layoutOf x) f k s p e d
-memberMarks (member.Maybe f x) k s p e d = marksPart (maybe f (layoutOf x)) k s p e d
-memberMarks (member.Flag f) k s p e d = marksPart (flag f) k s p e d
-memberMarks (member.Kinds f g x y) k s p e d = marksPart (choose f (leafOf form.ListKind) (λ c. is 1 (value c)) g (layoutOf x) (layoutOf y)) k s p e d
+-- the items of a list, of which so many stand before here
+unfoldable pub listWalk : Item → Field → ℕ → List ℕ → ℕ → ℕ → List ℕ → Tally × List ℕ
+listWalk i f k s p e d = (
+  tally (λ q. scan i s q e) (most-items - k) k p e,
+  manyMarks (λ q. scan i s q e) (λ j q x. marks i f j s q e x) (most-items - k) k p e d,
+)
 
--- the number of a list's items, of which so many stand before here, and what the others note
-unfoldable pub tallyAt : Item → ℕ → List ℕ → ℕ → ℕ → Tally
-tallyAt i k s p e = tally (λ q. scan i s q e) (most-items - k) k p e
-
-unfoldable pub manyAt : Item → Field → ℕ → List ℕ → ℕ → ℕ → List ℕ → List ℕ
-manyAt i f k s p e d = manyMarks (λ q. scan i s q e) (λ j q x. marks i f j s q e x) (most-items - k) k p e d
+unfoldable pub recordWalk : Members → List ℕ → ℕ → ℕ → List ℕ → Step × List ℕ
+recordWalk r s p e d = (recordScan largest-record r s p e, recordMarks largest-record r s p e d)
 
 -- a list whose items are counted ends where it ends
 abbrev pub counted : ℕ → Tally → Step

@@ -10,16 +10,12 @@ use tables::Member;
 use tables::Shape;
 use terms::Field;
 ghost use mathlib.Core.Path.{_≡_};
-ghost use Rattle.terms.specs.Numbers.{largest-record};
-ghost use Rattle.layouts.specs.Layout.{leaf as leafItem};
-ghost use Rattle.layouts.specs.Scan.{scan, scans, recordScan};
-ghost use Rattle.layouts.specs.Marks.{leafMarks, marks, marksAll, recordMarks};
 ghost use Rattle.layouts.specs.Places.{Placed};
 ghost use Rattle.layouts.specs.Whole.{toldOutcome};
 ghost use Rattle.records.specs.Record.{seal, signature};
 ghost use Rattle.records.specs.Handing.{recordAnswer, fieldsIn};
-ghost use Rattle.tables.specs.Table.{leafOf, inner, layoutOf};
-ghost use Rattle.readers.specs.Machine.{memberAt, memberMarks, tallyAt, manyAt, outcomeOf};
+ghost use Rattle.tables.specs.Table.{inner, layoutOf};
+ghost use Rattle.readers.specs.Machine.{leafWalk, itemWalk, rowWalk, memberWalk, listWalk, recordWalk, outcomeOf};
 
 // The most bytes of a record, header included.
 const LARGEST_RECORD: usize = 65535;
@@ -43,7 +39,7 @@ fn leaf(
     end: usize,
     places: &mut [usize],
 ) -> Step
-    ensures { λ r. ⌜ (r ≡ scan (leafItem (leafOf form)) (now (s .entry)) at end) × (now (places .exit) ≡ leafMarks (leafOf form) name index (now (s .entry)) at end (now (places .entry))) ⌝ }
+    ensures { λ r. ⌜ (r, now (places .exit)) ≡ leafWalk form name index (now (s .entry)) at end (now (places .entry)) ⌝ }
 {
     let h = leaves::leaf(s, form, at, end);
     let Seen::Item(a, z) = h else {
@@ -63,7 +59,7 @@ fn item(
     end: usize,
     places: &mut [usize],
 ) -> Step
-    ensures { λ r. ⌜ (r ≡ scan (layoutOf x) (now (s .entry)) at end) × (now (places .exit) ≡ marks (layoutOf x) name index (now (s .entry)) at end (now (places .entry))) ⌝ }
+    ensures { λ r. ⌜ (r, now (places .exit)) ≡ itemWalk (layoutOf x) name index (now (s .entry)) at end (now (places .entry)) ⌝ }
 {
     let k = tables::kind_of(x);
     match k {
@@ -109,7 +105,7 @@ fn item(
 
 // The members of a row, one after another, to the end: 5 if bytes are left over.
 fn row(s: &[u8], x: Shape, index: usize, at: usize, end: usize, places: &mut [usize]) -> Step
-    ensures { λ r. ⌜ (r ≡ scans (inner (layoutOf x)) (now (s .entry)) at end) × (now (places .exit) ≡ marksAll (inner (layoutOf x)) index (now (s .entry)) at end (now (places .entry))) ⌝ }
+    ensures { λ r. ⌜ (r, now (places .exit)) ≡ rowWalk (inner (layoutOf x)) index (now (s .entry)) at end (now (places .entry)) ⌝ }
 {
     let members = tables::members_of(x);
     let mut p = at;
@@ -127,7 +123,7 @@ fn row(s: &[u8], x: Shape, index: usize, at: usize, end: usize, places: &mut [us
 
 // A member of a row.
 fn member(s: &[u8], m: Member, index: usize, at: usize, end: usize, places: &mut [usize]) -> Step
-    ensures { λ r. ⌜ (r ≡ memberAt m (now (s .entry)) at end) × (now (places .exit) ≡ memberMarks m index (now (s .entry)) at end (now (places .entry))) ⌝ }
+    ensures { λ r. ⌜ (r, now (places .exit)) ≡ memberWalk m index (now (s .entry)) at end (now (places .entry)) ⌝ }
 {
     match m {
         Member::Blank => Step::Next(at),
@@ -162,7 +158,7 @@ fn member(s: &[u8], m: Member, index: usize, at: usize, end: usize, places: &mut
 
 // The items of a list, one after another, to the end, and their number: 16 at the 65th.
 fn list(s: &[u8], x: Shape, name: Field, at: usize, end: usize, places: &mut [usize]) -> Tally
-    ensures { λ r. ⌜ (r ≡ tallyAt (layoutOf x) 0 (now (s .entry)) at end) × (now (places .exit) ≡ manyAt (layoutOf x) name 0 (now (s .entry)) at end (now (places .entry))) ⌝ }
+    ensures { λ r. ⌜ (r, now (places .exit)) ≡ listWalk (layoutOf x) name 0 (now (s .entry)) at end (now (places .entry)) ⌝ }
 {
     let mut p = at;
     let mut k: usize = 0;
@@ -182,7 +178,7 @@ fn list(s: &[u8], x: Shape, name: Field, at: usize, end: usize, places: &mut [us
 
 // A record at a position, whatever follows it: where it ends, or the first refusal in it.
 fn record(s: &[u8], x: Shape, at: usize, end: usize, places: &mut [usize]) -> Step
-    ensures { λ r. ⌜ (r ≡ recordScan largest-record (inner (layoutOf x)) (now (s .entry)) at end) × (now (places .exit) ≡ recordMarks largest-record (inner (layoutOf x)) (now (s .entry)) at end (now (places .entry))) ⌝ }
+    ensures { λ r. ⌜ (r, now (places .exit)) ≡ recordWalk (inner (layoutOf x)) (now (s .entry)) at end (now (places .entry)) ⌝ }
 {
     let h = items::outermost(s, LARGEST_RECORD, Tag::Sequence, at, end);
     let Seen::Item(a, z) = h else {
