@@ -10,7 +10,7 @@ nearer-requires : tie.Need-nearer-requires
 nearer-requires c κs = search needs
 
 returns : tie.Need-returns
-returns c = search (needs, clamp-in, cut-rule, bits-none)
+returns c = search (needs, cut-rule, bits-none)
 
 shared-slice-read-ask-two : tie.Need-shared-slice-read-ask-two
 shared-slice-read-ask-two c = let inside = clamp-in _ _ _ (c .before .before .nearer .ensures) in search needs
