@@ -17,7 +17,8 @@ use Rattle.contents.specs.Rules.{octetsRule, bitsRule, booleanRule, stringRule,
 use Rattle.contents.specs.Scan.{checked, checkedAt}
 use Rattle.contents.specs.declared.Checked.{Checked}
 use Rattle.contents.specs.declared.Checked.the-variants.{Fine, Wrong}
-use Rattle.texts.specs.Laws.Range.{empty, first, enough-at}
+use Rattle.windows.specs.Laws.Window.{byte-at, nothing-at}
+use Rattle.texts.specs.Laws.Range.{enough-at}
 
 -- a rule that goes before another: its refusal stands, or it is fine
 fault-first : (c d : Check) (p a n q : ℕ) (y : Checked) → y ≡ checked c p a → y ≡ Wrong n q → y ≡ checked (also c d) p a
@@ -78,8 +79,8 @@ module _ (s : List ℕ) (p a z : ℕ) (k : z ≤ length s) (y : Checked) where
   -- bits: no byte, or a first byte that is to be 00 and another after it
   pub bits-rule : a < z → y ≡ checked (ask (eqb (getD s a 0) 0x00) bad-bits (ask (ltb 1 (z - a)) no-bytes fine)) p 0 → y ≡ checkedAt bitsRule s p a z
   unfolding checkedAt bitsRule
-  bits-rule h i = let q : ltb 1 (z - a) ≡ ltb (a + 1) z = after h in rw (first s a z h k, enough-at s (a + 1) z false k, ← q) (i ∙ at-tag-2 (eqb (getD s a 0) 0x00) (ltb 1 (z - a)) bad-bits no-bytes p a)
+  bits-rule h i = let q : ltb 1 (z - a) ≡ ltb (a + 1) z = after h in rw (byte-at s a z h k, enough-at s (a + 1) z false k, ← q) (i ∙ at-tag-2 (eqb (getD s a 0) 0x00) (ltb 1 (z - a)) bad-bits no-bytes p a)
 
 pub bits-none : (s : List ℕ) (p a z : ℕ) → z ≤ a → Wrong bad-bits p ≡ checkedAt bitsRule s p a z
 unfolding checkedAt bitsRule placeOf
-bits-none s p a z h = rw (empty s a z h)
+bits-none s p a z h = rw (nothing-at s a z h)

@@ -11,8 +11,10 @@ use borrow.Author.Tests.{le-leb, lt-leb, lt-ltb}
 use Rattle.terms.specs.Answer.{pick}
 use Rattle.terms.specs.Laws.Answer.{test, and-l, and-r, is-true, is-false, pick-yes, pick-no}
 use Rattle.contents.specs.Text.{Range, within, Character, character, starts, follows, textFrom, isText, utf8, partsFrom, isIdentifier}
+use Rattle.windows.specs.Laws.Window.{byte-at, nothing-at}
+use Rattle.texts.specs.declared.Alphabet.{Alphabet}
+use Rattle.texts.specs.Alphabet.{charactersOf}
 use Rattle.texts.specs.Size.{Sized}
-use Rattle.texts.specs.Laws.Range.{empty, first}
 
 -- ---- a byte of a range, and one of none
 
@@ -51,18 +53,14 @@ begins-none (x ∷ xs) b (h, k) = rw (within-no b (x .first) h) (begins-none xs 
 
 pub text-end : (alphabet : List Character) (s : List ℕ) (i z : ℕ) → z ≤ i → true ≡ isText alphabet (slice i z s)
 unfolding textFrom
-text-end alphabet s i z h = rw (empty s i z h)
-
-pub text-bad : (alphabet : List Character) (s : List ℕ) (i z : ℕ) (t : Bool) → i < z → z ≤ length s → t ≡ starts alphabet (getD s i 0) → t ≡ false → false ≡ isText alphabet (slice i z s)
-unfolding textFrom
-text-bad alphabet s i z t h k e f = rw (first s i z h k, ← e, f)
+text-end alphabet s i z h = rw (nothing-at s i z h)
 
 -- an alphabet whose characters are one byte long: nothing comes after their first byte
 abbrev none : List Range → Bool
 none [] = true
 none (r ∷ rs) = false
 
-abbrev pub single : List Character → Bool
+abbrev single : List Character → Bool
 single [] = true
 single (x ∷ xs) = none (x .rest) && single xs
 
@@ -78,10 +76,6 @@ alone (x ∷ xs) b h =
     (λ t. pick-yes (within b (x .first)) (x .rest) (follows xs b) t ∙ nothing (x .rest) (and-l (none (x .rest)) (single xs) h))
     (λ t. pick-no (within b (x .first)) (x .rest) (follows xs b) t ∙ alone xs b (and-r (none (x .rest)) (single xs) h))
 
-pub text-on : (alphabet : List Character) (s : List ℕ) (i z : ℕ) (t : Bool) → T (single alphabet) → i < z → z ≤ length s → t ≡ starts alphabet (getD s i 0) → t ≡ true → isText alphabet (slice i z s) ≡ isText alphabet (slice (i + 1) z s)
-unfolding textFrom
-text-on alphabet s i z t o h k e f = rw (first s i z h k, ← e, f, alone alphabet (getD s i 0) o)
-
 -- ---- a text character by character
 
 -- a character that begins with a byte is of the first row that has the byte
@@ -93,12 +87,27 @@ goes (x ∷ xs) alphabet (suc n) b c (o, os) l h = rw (within-no b (x .first) o)
 
 -- the text goes on by the row of its first byte, as what the row wants next tells; between the rows no character stands
 module _ (s : List ℕ) (i z : ℕ) (w : (i < z) × (z ≤ length s)) where
-  pub size-row : (n m : ℕ) → Outside (take n utf8) (getD s i 0) → row utf8 n .first .0 ≤ getD s i 0 → getD s i 0 ≤ row utf8 n .first .1 → Sized (textFrom utf8 (row utf8 n .rest) (slice (i + 1) z s)) s i z m → Sized (isText utf8 (slice i z s)) s i z m
+  pub size-row : (n m : ℕ) → Outside (take n utf8) (getD s i 0) → row utf8 n .first .0 ≤ getD s i 0 → getD s i 0 ≤ row utf8 n .first .1 → Sized utf8 (textFrom utf8 (row utf8 n .rest) (slice (i + 1) z s)) s i z m → Sized utf8 (isText utf8 (slice i z s)) s i z m
   unfolding textFrom
-  size-row n m o l u (x, e) = (x, rw (first s i z (w .0) (w .1)) (goes utf8 utf8 n (getD s i 0) (slice (i + 1) z s) o l u ∙ e))
+  size-row n m o l u (x, e) = (x, rw (byte-at s i z (w .0) (w .1)) (goes utf8 utf8 n (getD s i 0) (slice (i + 1) z s) o l u ∙ e))
 
-  pub size-none : Outside utf8 (getD s i 0) → Sized (isText utf8 (slice i z s)) s i z 0
-  size-none o = (omega arith, sym (text-bad utf8 s i z false (w .0) (w .1) (begins-none utf8 (getD s i 0) o) refl))
+  pub size-none : Outside utf8 (getD s i 0) → Sized utf8 (isText utf8 (slice i z s)) s i z 0
+  unfolding textFrom
+  size-none o = (omega arith, rw (byte-at s i z (w .0) (w .1), ← begins-none utf8 (getD s i 0) o))
+
+  -- where an alphabet's characters are of one byte, `t` is whether the byte at `i` is one
+  one-size : (alphabet : List Character) → T (single alphabet) → (t : Bool) → t ≡ starts alphabet (getD s i 0) → Sized alphabet (isText alphabet (slice i z s)) s i z (pick t 1 0)
+  unfolding textFrom pick
+  one-size alphabet o true e = (omega arith, rw (byte-at s i z (w .0) (w .1), ← e, alone alphabet (getD s i 0) o))
+  one-size alphabet o false e = (omega arith, rw (byte-at s i z (w .0) (w .1), ← e))
+
+  -- the alphabet that was asked for is `y`
+  module _ (x y : Alphabet) (m : ℕ) (e : x ≡ y) where
+    pub size-single : (t : Bool) → T (single (charactersOf y)) → t ≡ starts (charactersOf y) (getD s i 0) → m ≡ pick t 1 0 → Sized (charactersOf x) (isText (charactersOf x) (slice i z s)) s i z m
+    size-single t o g h = rw (e, h) (one-size (charactersOf y) o t g)
+
+    pub size-of : Sized (charactersOf y) (isText (charactersOf y) (slice i z s)) s i z m → Sized (charactersOf x) (isText (charactersOf x) (slice i z s)) s i z m
+    size-of h = rw e h
 
 short : (alphabet : List Character) (rs : List Range) (c : List ℕ) → length c < length rs → textFrom alphabet rs c ≡ false
 unfolding textFrom
@@ -113,11 +122,11 @@ module _ (alphabet : List Character) (s : List ℕ) (i z : ℕ) (k : z ≤ lengt
 
   follow-no : (m : ℕ) (r : Range) (rs : List Range) (t : Bool) → m < z - i → t ≡ within (getD s (i + m) 0) r → t ≡ false → textFrom alphabet (r ∷ rs) (slice (i + m) z s) ≡ false
   unfolding textFrom
-  follow-no m r rs t h e f = rw (first s (i + m) z (omega arith) k, ← e, f)
+  follow-no m r rs t h e f = rw (byte-at s (i + m) z (omega arith) k, ← e, f)
 
   follow-yes : (m : ℕ) (r : Range) (rs : List Range) (t : Bool) → m < z - i → t ≡ within (getD s (i + m) 0) r → t ≡ true → textFrom alphabet (r ∷ rs) (slice (i + m) z s) ≡ textFrom alphabet rs (slice (i + (m + 1)) z s)
   unfolding textFrom
-  follow-yes m r rs t h e f = let q : i + m + 1 ≡ i + (m + 1) = omega arith in rw (first s (i + m) z (omega arith) k, ← e, f, q)
+  follow-yes m r rs t h e f = let q : i + m + 1 ≡ i + (m + 1) = omega arith in rw (byte-at s (i + m) z (omega arith) k, ← e, f, q)
 
   -- the second byte, the third and the fourth, where `n` bytes are left: `t`, `u` and `v` are whether they lie in `r`, `q` and `o`
   module _ (n : ℕ) (l : n ≤ z - i) (r : Range) (t : Bool) (e : t ≡ within (getD s (i + 1) 0) r) where
@@ -154,21 +163,21 @@ module _ (n : ℕ) (x y : Bool) (e : x ≡ ltb 0 n && y) where
 module _ (s : List ℕ) (i z : ℕ) (g : Bool) where
   pub parts-end : z ≤ i → g ≡ partsFrom g (slice i z s)
   unfolding partsFrom
-  parts-end h = rw (empty s i z h)
+  parts-end h = rw (nothing-at s i z h)
 
   pub parts-bad : (t : Bool) → i < z → z ≤ length s → t ≡ g && eqb (getD s i 0) 0x80 → t ≡ true → false ≡ partsFrom g (slice i z s)
   unfolding partsFrom
-  parts-bad t h k e f = rw (first s i z h k, ← e, f)
+  parts-bad t h k e f = rw (byte-at s i z h k, ← e, f)
 
   pub parts-on : (t : Bool) → i < z → z ≤ length s → t ≡ g && eqb (getD s i 0) 0x80 → t ≡ false → partsFrom g (slice i z s) ≡ partsFrom (ltb (getD s i 0) 0x80) (slice (i + 1) z s)
   unfolding partsFrom
-  parts-on t h k e f = rw (first s i z h k, ← e, f)
+  parts-on t h k e f = rw (byte-at s i z h k, ← e, f)
 
 -- an identifier: no byte, more than 64, or whole parts
 module _ (s : List ℕ) (a z : ℕ) (k : z ≤ length s) where
   pub identifier-none : z ≤ a → false ≡ isIdentifier (slice a z s)
   unfolding isIdentifier
-  identifier-none h = rw (empty s a z h)
+  identifier-none h = rw (nothing-at s a z h)
 
   pub identifier-long : 64 < z - a → false ≡ isIdentifier (slice a z s)
   unfolding isIdentifier

@@ -2,18 +2,19 @@
 use mathlib.Core.Path.{_≡_, refl}
 use Prim.Native.Nat.{_-_}
 use lib.Seq.{slice}
-use Rattle.contents.specs.Text.{isText, utf8}
+use Rattle.contents.specs.Text.{isText}
+use Rattle.texts.specs.Alphabet.{charactersOf}
 use Rattle.texts.specs.Laws.Range.{over, onward}
 use Rattle.texts.specs.Laws.Text.{text-end, stops, goes-on}
 use borrow.Author.Needs.{needs}
-use Rattle.texts.proofs.all_utf8.Statement.{statement}
-use Rattle.texts.proofs.all_utf8.Tie as tie
+use Rattle.texts.proofs.is_text.Statement.{statement}
+use Rattle.texts.proofs.is_text.Tie as tie
 
 abbrev Inv-loop : tie.InvT-loop
-Inv-loop s a z i₀ i = isText utf8 (slice a z s) ≡ isText utf8 (slice i z s)
+Inv-loop s alphabet a z i₀ i = isText (charactersOf alphabet) (slice a z s) ≡ isText (charactersOf alphabet) (slice i z s)
 
 abbrev μ-loop : tie.MeasureT-loop
-μ-loop s a z i₀ i = z - i
+μ-loop s alphabet a z i₀ i = z - i
 
 loop-holds : tie.Need-loop-holds Inv-loop μ-loop
 loop-holds c = refl
@@ -36,8 +37,8 @@ loop-again c = search (needs, onward, goes-on)
 returns-2 : tie.Need-returns-2 Inv-loop μ-loop
 returns-2 c = search (needs, over, text-end)
 
-pub all-utf8-spec : {M : Type 1} → statement M
-all-utf8-spec =
+pub is-text-spec : {M : Type 1} → statement M
+is-text-spec =
     tie.close
     (tie.spec
     Inv-loop
