@@ -50,8 +50,8 @@ use Rattle.layouts.specs.Places.{table-size, Placed, noted, notes}
 use Rattle.layouts.specs.Fields.{fields}
 use Rattle.layouts.specs.Laws.Places.{placed}
 use Rattle.layouts.specs.Laws.Marks.{accept-marks}
-use Rattle.layouts.specs.Marks.{afterSeen, afterStep, thenTally, tally, manyMarks, leafMarks, marks, marksAll, recordMarks}
-use Rattle.readers.specs.Machine.{leafWalk, itemWalk, rowWalk, memberWalk, listWalk, recordWalk, counted, outcomeOf}
+use Rattle.layouts.specs.Marks.{afterSeen, afterStep, afterTally, thenTally, tally, manyMarks, leafMarks, marks, marksAll, recordMarks}
+use Rattle.readers.specs.Machine.{leafWalk, listHeadAt, itemWalk, rowWalk, memberWalk, listWalk, recordWalk, counted, outcomeOf}
 
 -- ---- a number that falls from an item to what stands in it
 
@@ -129,8 +129,9 @@ head-inside t s p e a z h = go (head t (slice p e s) p) refl h
         omega arith
     go (fault n q) o g = let y : _≡_ {A = ℕ} 0 1 = cc in let f : ⊥ = omega arith in absurd f
 
-rule-inside : (t : ℕ) (rule : List ℕ → Check) (s : List ℕ) (p e a z : ℕ) → ruleAt t rule s p e ≡ At a z → a ≤ length s
-rule-inside t rule s p e a z h = head-inside t s p e a z (rule-taken t rule s p e a z h .0)
+-- a content that was taken starts in the slice
+pub rule-inside : (t : ℕ) (rule : List ℕ → Check) (s : List ℕ) (p e a z : ℕ) (h : Seen) → h ≡ ruleAt t rule s p e → h ≡ At a z → a ≤ length s
+rule-inside t rule s p e a z h j b = head-inside t s p e a z (rule-taken t rule s p e a z (sym j ∙ b) .0)
 
 -- a list's items, counted, are its items, read
 tally-many : (f : ℕ → Step) (n j p e : ℕ) → scanMany f n p e ≡ counted e (tally f n j p e)
@@ -146,6 +147,39 @@ tally-many f (suc n) j p e = go (λ q. tally-many f n (suc j) q e) (ltb p e) (f 
     go h true (Next q) = h q
     go h true (Refused m q) = refl
     go h false x = refl
+
+-- what follows a head and a test follows the head that passed it
+seen-passed : (h : Seen) (t : ℕ → ℕ → Bool) (n p : ℕ) (f g : ℕ → ℕ → Step) → ((a z : ℕ) → f a z ≡ g a z)
+    → (thenSeen h λ a z. pick (t a z) (f a z) (Refused n p)) ≡ (thenSeen (thenJudge h λ a z. pick (t a z) (At a z) (Bad n p)) λ a z. g a z)
+unfolding pick
+seen-passed (At a z) t n p f g e = go (t a z)
+  where
+    go : (b : Bool) → pick b (f a z) (Refused n p) ≡ (thenSeen (pick b (At a z) (Bad n p)) λ a z. g a z)
+    go true = e a z
+    go false = refl
+seen-passed (Bad m q) t n p f g e = refl
+
+after-passed : (h : Seen) (t : ℕ → ℕ → Bool) (n p : ℕ) (d : List ℕ) (f : ℕ → ℕ → List ℕ)
+    → (afterSeen h d λ a z. pick (t a z) (f a z) d) ≡ (afterSeen (thenJudge h λ a z. pick (t a z) (At a z) (Bad n p)) d λ a z. f a z)
+unfolding pick
+after-passed (At a z) t n p d f = go (t a z)
+  where
+    go : (b : Bool) → pick b (f a z) d ≡ (afterSeen (pick b (At a z) (Bad n p)) d λ a z. f a z)
+    go true = refl
+    go false = refl
+after-passed (Bad m q) t n p d f = refl
+
+-- a list is its head, then its items
+module _ (t : ℕ) (o : Bool) (n : ℕ) (g : Field) (i : Item) where
+  list-scan : (s : List ℕ) (p e : ℕ) → scan (list t o n g i) s p e ≡ (thenSeen (listHeadAt t o s p e) λ a z. counted z (tally (λ q. scan i s q z) n 0 a z))
+  unfolding scan listHeadAt
+  list-scan s p e = seen-passed (headAt t s p e) (λ a z. o || ltb a z) no-item p _ _ λ a z. tally-many (λ q. scan i s q z) n 0 a z
+
+  list-marks : (f : Field) (k : ℕ) (s : List ℕ) (p e : ℕ) (d : List ℕ) → marks (list t o n g i) f k s p e d
+      ≡ (afterSeen (listHeadAt t o s p e) d λ a z. afterTally (tally (λ q. scan i s q z) n 0 a z) (manyMarks (λ q. scan i s q z) (λ j q x. marks i g j s q z x) n 0 a z d) λ c.
+      noted f k p z c (manyMarks (λ q. scan i s q z) (λ j q x. marks i g j s q z x) n 0 a z d))
+  unfolding marks listHeadAt
+  list-marks f k s p e d = after-passed (headAt t s p e) (λ a z. o || ltb a z) no-item p d _
 
 -- two answers at once, and each of them
 both : {A : Type 0} {x y : A} {d d′ : List ℕ} → x ≡ y → d ≡ d′ → _≡_ {A = A × List ℕ} (x, d) (y, d′)
@@ -166,10 +200,6 @@ module _ (f : Field) (n : ℕ) (s : List ℕ) (p e : ℕ) (d : List ℕ) where
     pub leaf-taken : (a z i : ℕ) (d′ : List ℕ) → h ≡ At a z → i ≡ leafOf l .hidden → d′ ≡ noted f n (a + i) z 0 d → (Next z, d′) ≡ leafWalk l f n s p e d
     unfolding leafWalk scan leafMarks
     leaf-taken a z i d′ b o g = both (rw (← j, b)) (rw (← j, b, ← o) g)
-
-    -- a content starts in the slice
-    pub leaf-inside : (a z : ℕ) → h ≡ At a z → a ≤ length s
-    leaf-inside a z b = rule-inside (leafOf l .tag) (leafOf l .rule) s p e a z (sym j ∙ b)
 
   module _ (x : Shape) (k : Kind) (l : layoutOf x ≡ itemOf x k) where
     abbrev Reads : Step → List ℕ → Type 0
@@ -192,29 +222,6 @@ module _ (f : Field) (n : ℕ) (s : List ℕ) (p e : ℕ) (d : List ℕ) where
             both (answers g ∙ sym (ap (λ (m : Item). scan m s p e) q ∙ rw (← j, b)))
             (tables g ∙ ap (marksAll (inner (layoutOf x)) n s a z) o ∙ sym (ap (λ (m : Item). marks m f n s p e d) q ∙ rw (← j, b)))
 
-      module _ (o : Bool) (g : Field) (u : Shape) (i : k ≡ kind.List t o g u) where
-        pub list-refused : (m q : ℕ) (y : Step) → h ≡ Bad m q → y ≡ pastOf h → Reads y d
-        unfolding itemWalk scan marks
-        list-refused m q y b r = both (rw (l, i, ← j, b) (r ∙ ap pastOf b)) (rw (l, i, ← j, b))
-
-        module _ (a z : ℕ) (b : h ≡ At a z) (v : Bool) (w : v ≡ o || ltb a z) where
-          pub list-none : v ≡ false → Reads (Refused no-item p) d
-          unfolding itemWalk scan marks pick
-          list-none q = both (rw (l, i, ← j, b, ← w, q)) (rw (l, i, ← j, b, ← w, q))
-
-          module _ (q : v ≡ true) (c : Tally) (d₁ : List ℕ) (r : (c, d₁) ≡ listWalk (layoutOf u) g 0 s a z d) where
-            pub list-bad : (n q : ℕ) → c ≡ Uncounted n q → Reads (Refused n q) d₁
-            unfolding itemWalk listWalk scan marks pick
-            list-bad n′ q′ y =
-                both (rw (l, i, ← j, b, ← w, q, tally-many (λ q. scan (layoutOf u) s q z) 64 0 a z, ← answers r, y))
-                (rw (l, i, ← j, b, ← w, q, ← answers r, y) (tables r))
-
-            pub list-all : (n′ : ℕ) (d₂ : List ℕ) → c ≡ Items n′ → d₂ ≡ noted f n p z n′ d₁ → Reads (Next z) d₂
-            unfolding itemWalk listWalk scan marks pick
-            list-all n′ d₂ y y′ =
-                both (rw (l, i, ← j, b, ← w, q, tally-many (λ q. scan (layoutOf u) s q z) 64 0 a z, ← answers r, y))
-                (rw (l, i, ← j, b, ← w, q, ← answers r, y, ← tables r) y′)
-
       module _ (u : Shape) (i : k ≡ kind.Wrap t u) where
         pub wrap-refused : (m q : ℕ) (y : Step) → h ≡ Bad m q → y ≡ pastOf h → Reads y d
         unfolding itemWalk scan marks
@@ -228,6 +235,23 @@ module _ (f : Field) (n : ℕ) (s : List ℕ) (p e : ℕ) (d : List ℕ) where
           pub wrap-close : (q : ℕ) (y : Step) → r ≡ Next q → y ≡ closeAt q z → Reads y d₁
           unfolding itemWalk scan marks
           wrap-close q y o g = both (rw (l, i, ← j, b, ← answers w, o) g) (rw (l, i, ← j, b) (tables w))
+
+    module _ (t : Tag) (o : Bool) (g : Field) (u : Shape) (i : k ≡ kind.List t o g u) (h : Seen) (j : h ≡ listHeadAt (tagByte t) o s p e) where
+      pub list-refused : (m q : ℕ) (y : Step) → h ≡ Bad m q → y ≡ pastOf h → Reads y d
+      unfolding itemWalk
+      list-refused m q y b r =
+          rw (l, i) (both (rw (list-scan (tagByte t) o 64 g (layoutOf u) s p e, ← j, b) (r ∙ ap pastOf b)) (rw (list-marks (tagByte t) o 64 g (layoutOf u) f n s p e d, ← j, b)))
+
+      module _ (a z : ℕ) (b : h ≡ At a z) (c : Tally) (d₁ : List ℕ) (r : (c, d₁) ≡ listWalk (layoutOf u) g 0 s a z d) where
+        pub list-bad : (n q : ℕ) → c ≡ Uncounted n q → Reads (Refused n q) d₁
+        unfolding itemWalk listWalk
+        list-bad n′ q y =
+            rw (l, i) (both (rw (list-scan (tagByte t) o 64 g (layoutOf u) s p e, ← j, b, ← answers r, y)) (rw (list-marks (tagByte t) o 64 g (layoutOf u) f n s p e d, ← j, b, ← answers r, y) (tables r)))
+
+        pub list-all : (n′ : ℕ) (d₂ : List ℕ) → c ≡ Items n′ → d₂ ≡ noted f n p z n′ d₁ → Reads (Next z) d₂
+        unfolding itemWalk listWalk
+        list-all n′ d₂ y y′ =
+            rw (l, i) (both (rw (list-scan (tagByte t) o 64 g (layoutOf u) s p e, ← j, b, ← answers r, y)) (rw (list-marks (tagByte t) o 64 g (layoutOf u) f n s p e d, ← j, b, ← answers r, y, ← tables r) y′))
 
 pub node-less : (x : Shape) (k : Kind) (t : Tag) → layoutOf x ≡ itemOf x k → k ≡ kind.Node t → suc (sizes (inner (layoutOf x))) < size (layoutOf x)
 unfolding size
@@ -528,3 +552,19 @@ module _ (x : Step) where
 
   pub outcome-refused : (n p : ℕ) → x ≡ Refused n p → Unread n p ≡ outcomeOf x
   outcome-refused n p i = rw i
+
+-- ---- the head of a list
+
+module _ (t : Tag) (o : Bool) (s : List ℕ) (p e : ℕ) (h : Seen) (j : h ≡ headAt (tagByte t) s p e) where
+  pub head-refused : (n q : ℕ) → h ≡ Bad n q → h ≡ listHeadAt (tagByte t) o s p e
+  unfolding listHeadAt
+  head-refused n q b = rw (← j, b)
+
+  module _ (a z : ℕ) (b : h ≡ At a z) (v : Bool) (w : v ≡ o || ltb a z) where
+    pub head-none : v ≡ false → Bad no-item p ≡ listHeadAt (tagByte t) o s p e
+    unfolding listHeadAt pick
+    head-none q = rw (← j, b, ← w, q)
+
+    pub head-some : v ≡ true → At a z ≡ listHeadAt (tagByte t) o s p e
+    unfolding listHeadAt pick
+    head-some q = rw (← j, b, ← w, q)

@@ -1,15 +1,21 @@
 -- What the functions over the table answer. Assumes nothing.
 use Prim.Native.Nat.{ℕ, _-_}
+use mathlib.Core.Bool.{Bool, _||_}
 use mathlib.Core.List.{List}
+use lib.Dec.{ltb}
 use Rattle.terms.specs.declared.Field.{Field}
-use Rattle.terms.specs.Numbers.{most-items, largest-record}
+use Rattle.terms.specs.Numbers.{no-item, most-items, largest-record}
+use Rattle.terms.specs.Answer.{pick}
+use Rattle.heads.specs.Scan.{headAt}
+use Rattle.heads.specs.declared.Seen.{Seen}
+use Rattle.heads.specs.declared.Seen.the-variants.{Item as At, Refused as Bad}
 use Rattle.heads.specs.declared.Step.{Step}
 use Rattle.heads.specs.declared.Step.the-variants.{Next, Refused}
 use Rattle.layouts.specs.declared.Outcome.{Outcome}
 use Rattle.layouts.specs.declared.Outcome.the-variants.{Length, Refused as Unread}
 use Rattle.contents.specs.Integer.{value, is}
 use Rattle.layouts.specs.Layout.{Item, leaf, Members, Member as Part, maybe, flag, choose}
-use Rattle.layouts.specs.Scan.{scan, scans, scanPart, recordScan}
+use Rattle.layouts.specs.Scan.{thenJudge, scan, scans, scanPart, recordScan}
 use Rattle.layouts.specs.Marks.{tally, manyMarks, leafMarks, marks, marksAll, marksPart, recordMarks}
 use Rattle.layouts.specs.declared.Tally.{Tally}
 use Rattle.layouts.specs.declared.Tally.the-variants.{Items, Refused as Uncounted}
@@ -23,6 +29,10 @@ use Rattle.tables.specs.Table.{leafOf, knownOf, layoutOf}
 
 unfoldable pub leafWalk : Form → Field → ℕ → List ℕ → ℕ → ℕ → List ℕ → Step × List ℕ
 leafWalk l f k s p e d = (scan (leaf (leafOf l)) s p e, leafMarks (leafOf l) f k s p e d)
+
+-- the head of a list: 15 where it has no item and needs one
+unfoldable pub listHeadAt : ℕ → Bool → List ℕ → ℕ → ℕ → Seen
+listHeadAt t o s p e = thenJudge (headAt t s p e) λ a z. pick (o || ltb a z) (At a z) (Bad no-item p)
 
 unfoldable pub itemWalk : Item → Field → ℕ → List ℕ → ℕ → ℕ → List ℕ → Step × List ℕ
 itemWalk i f k s p e d = (scan i s p e, marks i f k s p e d)

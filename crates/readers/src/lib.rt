@@ -10,12 +10,13 @@ use tables::Member;
 use tables::Shape;
 use terms::Field;
 ghost use mathlib.Core.Path.{_≡_};
+ghost use Rattle.items.specs.Scan.{tagByte};
 ghost use Rattle.layouts.specs.Places.{Placed};
 ghost use Rattle.layouts.specs.Whole.{toldOutcome};
 ghost use Rattle.records.specs.Record.{seal, signature};
 ghost use Rattle.records.specs.Handing.{recordAnswer, fieldsIn};
 ghost use Rattle.tables.specs.Table.{inner, layoutOf};
-ghost use Rattle.readers.specs.Machine.{leafWalk, itemWalk, rowWalk, memberWalk, listWalk, recordWalk, outcomeOf};
+ghost use Rattle.readers.specs.Machine.{leafWalk, listHeadAt, itemWalk, rowWalk, memberWalk, listWalk, recordWalk, outcomeOf};
 
 // The most bytes of a record, header included.
 const LARGEST_RECORD: usize = 65535;
@@ -49,6 +50,20 @@ fn leaf(
     Step::Next(z)
 }
 
+// The head of a list: 15 if it has no item and needs one.
+fn list_head(s: &[u8], t: Tag, empty: bool, at: usize, end: usize) -> Seen
+    ensures { λ r. ⌜ r ≡ listHeadAt (tagByte t) empty (now (s .entry)) at end ⌝ }
+{
+    let h = items::head(s, t, at, end);
+    let Seen::Item(a, z) = h else {
+        return h;
+    };
+    if !texts::enough(a, z, empty) {
+        return Seen::Refused(15, at);
+    }
+    Seen::Item(a, z)
+}
+
 // An item under its name, up to its encloser's end: where what follows it starts, or the first refusal in it.
 fn item(
     s: &[u8],
@@ -73,13 +88,10 @@ fn item(
             row(s, x, index, a, z, places)
         }
         Kind::List(t, empty, each, y) => {
-            let h = items::head(s, t, at, end);
+            let h = list_head(s, t, empty, at, end);
             let Seen::Item(a, z) = h else {
                 return leaves::past(h);
             };
-            if !texts::enough(a, z, empty) {
-                return Step::Refused(15, at);
-            }
             let c = list(s, y, each, a, z, places);
             match c {
                 Tally::Refused(number, place) => Step::Refused(number, place),

@@ -2,6 +2,7 @@
 use items::Tag;
 use terms::Field;
 ghost use mathlib.Core.Path.{_≡_};
+ghost use Prim.Native.Nat.{_≤_};
 ghost use Rattle.items.specs.Scan.{tagByte};
 ghost use Rattle.layouts.specs.Layout.{end, tagOf};
 ghost use Rattle.tables.specs.Table.{leafOf, inner, layoutOf, itemOf, membersOf};
@@ -93,7 +94,7 @@ pub fn tag_of_form(f: Form) -> Tag
 
 // How many bytes of a primitive item are never handed out: the first of a bit string.
 pub fn hidden_of(f: Form) -> usize
-    ensures { λ r. ⌜ r ≡ leafOf f .hidden ⌝ }
+    ensures { λ r. ⌜ (r ≡ leafOf f .hidden) × (r ≤ 1) ⌝ }
 {
     match f {
         Form::Octets => 0,

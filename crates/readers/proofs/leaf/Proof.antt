@@ -1,5 +1,5 @@
 use borrow.Author.Needs.{needs}
-use Rattle.readers.specs.Laws.{leaf-refused, leaf-taken, leaf-inside}
+use Rattle.readers.specs.Laws.{leaf-refused, leaf-taken, rule-inside}
 use Rattle.readers.proofs.leaf.Statement.{statement}
 use Rattle.readers.proofs.leaf.Tie as tie
 use Rattle.readers.proofs.leaf.Reads as reads
@@ -27,7 +27,7 @@ past-requires c κs = search needs
 
 -- src/lib.rt:50:9
 returns : tie.Need-returns
-returns c = leaf-refused _ _ _ _ _ _ _ _ (c .before .before .before .leaf .ensures) _ _ _ (c .before .enum-told .given .1) (c .past .ensures)
+returns c = search (needs, leaf-refused)
 
 -- src/lib.rt:52:43
 hidden-of-requires : tie.Need-hidden-of-requires
@@ -35,7 +35,7 @@ hidden-of-requires c κs = search needs
 
 -- src/lib.rt:52:39
 add-note : tie.Need-add-note
-add-note c = ?
+add-note c = let m = rule-inside _ _ _ _ _ _ _ _ (c .before .before .before .before .before .leaf .ensures) (c .before .before .before .h .given .1) in search needs
 
 -- src/lib.rt:52:5
 note-requires : tie.Need-note-requires
