@@ -85,5 +85,6 @@ fn main() {
         os::fail(&[b'r', b'e', b'a', b'd']);
         return;
     };
-    print(readers::read_signature(&input[..n]));
+    let r = readers::read_signature(&input[..n]);
+    print(r.outcome);
 }

@@ -123,7 +123,7 @@ head-inside t s p e a z h = go (head t (slice p e s) p) refl h
         let n : length (slice p e s) ≡ length (take e s) - p = length-drop p (take e s) in
         let m = take-short e s in
         let k : length (slice p e s) ≡ before (length (c .0)) + length (c .0) + length (c .1) =
-            ap length (b .0) ∙ length-append (tlv t (c .0)) (c .1) ∙ ap (λ (x : ℕ). x + length (c .1)) (length-tlv t (c .0)) in
+        ap length (b .0) ∙ length-append (tlv t (c .0)) (c .1) ∙ ap (λ (x : ℕ). x + length (c .1)) (length-tlv t (c .0)) in
         let q : c .2 ≡ a = cc in
         let r = b .1 in
         omega arith
@@ -524,18 +524,18 @@ module _ (r : Members) (s : List ℕ) (x : Step) (d : List ℕ) (w : (x, d) ≡ 
     unfolding wholeScan
     whole-refused y g = answer r s y (rw (← h, b) (g ∙ ap outcomeOf b))
 
-    pub places-refused : Placed (fieldsIn r s) (replicate table-size 0)
+    pub places-refused : (t : List ℕ) → t ≡ replicate table-size 0 → Placed (fieldsIn r s) t
     unfolding wholeScan
-    places-refused = no-field r s n q (rw (← h, b))
+    places-refused t i = rw i (no-field r s n q (rw (← h, b)))
 
   module _ (q : ℕ) (z : Step) (b : x ≡ Next q) (c : z ≡ closeAt q (length s)) where
     pub whole-close : (y : Outcome) → y ≡ outcomeOf z → toldOutcome y ≡ recordAnswer r s
     unfolding wholeScan
     whole-close y g = answer r s y (rw (← h, b) (g ∙ ap outcomeOf c))
 
-    pub places-left : (n m : ℕ) → z ≡ Refused n m → Placed (fieldsIn r s) (replicate table-size 0)
+    pub places-left : (n m : ℕ) (t : List ℕ) → z ≡ Refused n m → t ≡ replicate table-size 0 → Placed (fieldsIn r s) t
     unfolding wholeScan
-    places-left n m o = no-field r s n m (rw (← h, b) (sym c ∙ o))
+    places-left n m t o i = rw i (no-field r s n m (rw (← h, b) (sym c ∙ o)))
 
     pub places-whole : (m : ℕ) → z ≡ Next m → Placed (fieldsIn r s) d
     unfolding wholeScan recordWalk recordScan recordMarks

@@ -10,8 +10,9 @@ use tables::Member;
 use tables::Shape;
 use terms::Field;
 ghost use mathlib.Core.Path.{_≡_};
+ghost use lib.ListN.{replicate};
 ghost use Rattle.items.specs.Scan.{tagByte};
-ghost use Rattle.layouts.specs.Places.{Placed};
+ghost use Rattle.layouts.specs.Places.{table-size, Placed};
 ghost use Rattle.layouts.specs.Whole.{toldOutcome};
 ghost use Rattle.records.specs.Record.{seal, signature};
 ghost use Rattle.records.specs.Handing.{recordAnswer, fieldsIn};
@@ -209,7 +210,17 @@ fn outcome(x: Step) -> Outcome
     }
 }
 
-// A record that is the whole input: 5 if bytes are left over. A refused one has no places.
+// A refused record: it has no places.
+fn refused(x: Step) -> Reading
+    ensures { λ r. ⌜ (r .outcome ≡ outcomeOf x) × (r .places ≡ replicate table-size 0) ⌝ }
+{
+    Reading {
+        outcome: outcome(x),
+        places: [0usize; 172],
+    }
+}
+
+// A record that is the whole input: 5 if bytes are left over.
 fn whole(s: &[u8], x: Shape) -> Reading
     ensures { λ r. ⌜ toldOutcome (r .outcome) ≡ recordAnswer (inner (layoutOf x)) (now (s .entry)) ⌝ }
     ensures { λ r. ⌜ Placed (fieldsIn (inner (layoutOf x)) (now (s .entry))) (r .places) ⌝ }
@@ -217,17 +228,11 @@ fn whole(s: &[u8], x: Shape) -> Reading
     let mut places = [0usize; 172];
     let r = record(s, x, 0, s.len(), &mut places);
     let Step::Next(q) = r else {
-        return Reading {
-            outcome: outcome(r),
-            places: [0usize; 172],
-        };
+        return refused(r);
     };
     let c = leaves::close(q, s.len());
     let Step::Next(_) = c else {
-        return Reading {
-            outcome: outcome(c),
-            places: [0usize; 172],
-        };
+        return refused(c);
     };
     Reading {
         outcome: outcome(c),
