@@ -86,5 +86,6 @@ fn main() {
         return;
     };
     let r = readers::read_signature(&input[..n]);
-    print(r.outcome);
+    let outcome = r.outcome;
+    print(outcome);
 }

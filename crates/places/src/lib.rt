@@ -11,10 +11,10 @@ ghost use Rattle.places.specs.Laws.{free, filled};
 
 // What stands under a name.
 pub struct Place {
-    there: bool,
-    start: usize,
-    length: usize,
-    items: usize,
+    pub there: bool,
+    pub start: usize,
+    pub length: usize,
+    pub items: usize,
 }
 
 // A name's number.

@@ -27,8 +27,8 @@ const MOST_ITEMS: usize = 64;
 
 // What reading a record comes to; and, where it was accepted, the table of its places.
 pub struct Reading {
-    outcome: Outcome,
-    places: [usize; 172],
+    pub outcome: Outcome,
+    pub places: [usize; 172],
 }
 
 // A primitive item under its name, and its index in a list: where what follows it starts.
