@@ -4,9 +4,13 @@ use mathlib.Core.Path.{_≡_, refl, sym, ap, _∙_}
 use mathlib.Core.Bool.{true, false}
 use mathlib.Core.List.{List, [], _∷_}
 use Prim.Native.Nat.{ℕ, suc, zero}
+use lib.ListN.{length}
 use lib.Dec.{eqb}
 use lib.IntN.{ℤ, pos, negsuc}
 use Rattle.terms.specs.Answer.{Told, gives, refuses}
+use Rattle.layouts.specs.Fields.{Entry}
+use Rattle.layouts.specs.Places.{table-size, Placed}
+use Rattle.layouts.specs.Laws.Places.{placed-once}
 use Rattle.layouts.specs.Whole.{toldOutcome}
 use Rattle.layouts.specs.declared.Outcome.{Outcome}
 use Rattle.layouts.specs.declared.Outcome.the-variants.{Length, Refused as NotDone}
@@ -49,6 +53,10 @@ outcome-back (NotDone n p) = refl
 
 pub one-outcome : (x y : Outcome) → toldOutcome x ≡ toldOutcome y → x ≡ y
 one-outcome = one-answer toldOutcome outcome outcome-back
+
+-- of the table of places beside it: four numbers for each of 43 names, and no other
+pub one-table : (xs : List Entry) (d d′ : List ℕ) → length d ≡ table-size → length d′ ≡ table-size → Placed xs d → Placed xs d′ → d ≡ d′
+one-table = placed-once
 
 abbrev part : Told → Part
 part (gives n []) = NoPart

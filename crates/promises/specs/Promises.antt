@@ -6,9 +6,10 @@ use mathlib.Core.Option.{some}
 use mathlib.Core.List.{List, [], _++_, append-nil}
 use Prim.Native.Nat.{ℕ, _+_, _≤_}
 use native.Mathlib.Omega.{arith}
-use lib.ListN.{length, take, drop}
+use lib.ListN.{length, getD, take, drop}
 use lib.IntN.{ℤ}
 use lib.Dec.{T, leb}
+use Rattle.terms.specs.declared.Field.{Field}
 use Rattle.terms.specs.declared.Field.the-variants.{SignedPart, SealInformation}
 use Rattle.terms.specs.Numbers.{largest-record, unreal-time}
 use Rattle.terms.specs.Answer.{good, fault, every}
@@ -19,12 +20,13 @@ use Rattle.contents.specs.Laws.Integer.{value-contentOf, contentOf-value, conte
 use Rattle.layouts.specs.Layout.{node, Members, Values, All, encode}
 use Rattle.layouts.specs.Sheet.{sheets}
 use Rattle.layouts.specs.Whole.{sequence, recordOf, Allowed, acceptSheet}
-use Rattle.layouts.specs.Fields.{Entry, fields, Stands, first}
+use Rattle.layouts.specs.Fields.{Entry, fields, Stands, isField, first}
+use Rattle.layouts.specs.Places.{under, spot, Placed}
 use Rattle.layouts.specs.Laws.Reading.{clear, clears, spare, prefix-free}
 use Rattle.layouts.specs.Laws.Whole as Whole
 use Rattle.layouts.specs.Laws.Fields.{fields-stand, first-stands}
 use Rattle.records.specs.Record.{seal, signature}
-use Rattle.records.specs.Handing.{readRecord, fillFrom, writeFrom, fillAfter, writeAfter, signedBytes, informationOf, signedPartOf, sealOf}
+use Rattle.records.specs.Handing.{readRecord, fieldsOf, fieldsIn, fillFrom, writeFrom, fillAfter, writeAfter, signedBytes, informationOf, signedPartOf, sealOf}
 use Rattle.records.specs.Laws.Record as Record
 use Rattle.runs.specs.Run.{runOf, whole, stopped, readRun, hereAt, taken, ended, faulty}
 use Rattle.runs.specs.Laws.Run as Runs
@@ -80,6 +82,14 @@ module _ (r : Members) (k : Clear r) where
   pub handed-out-stands-there : (w : List ℕ) (v : Values r) → readRecord r w ≡ good v → (p : Entry → Bool) (x : Entry) → first p (fields r v) ≡ some x
       → take (length (x .bytes)) (drop (x .place) w) ≡ x .bytes
   handed-out-stands-there w v e p x h = first-stands (Stands w) p (fields r v) x (fields-stand-there w v e) h
+
+  -- so do those that a reader's table of places tells: its second and third number are the field's start and length
+  pub placed-stands-there : (w : List ℕ) (v : Values r) → readRecord r w ≡ good v → (d : List ℕ) → Placed (fieldsIn r w) d → (f : Field) (x : Entry) → first (isField f 0) (fields r v) ≡ some x
+      → take (getD (under f d) 2 0) (drop (getD (under f d) 1 0) w) ≡ x .bytes
+  unfolding fieldsIn
+  placed-stands-there w v e d h f x i =
+      let u : under f d ≡ spot (some x) = h f ∙ ap (λ (y : List Entry). spot (first (isField f 0) y)) (ap (fieldsOf r) e) ∙ ap spot i in
+      rw u (handed-out-stands-there w v e (isField f 0) x i)
 
   -- "Record → sheet → record and sheet → record → sheet give the same bytes.": each way succeeds wherever there is room
   pub record-sheet-record : (w : List ℕ) (v : Values r) → readRecord r w ≡ good v → (room room′ : ℕ) → length (sheets r v) ≤ room → length w ≤ room′

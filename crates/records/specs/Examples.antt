@@ -7,10 +7,10 @@ use mathlib.Core.List.{List, [], _∷_, _++_}
 use lib.ListN.{replicate, set, take, drop}
 use lib.IntN.{ℤ, pos, negsuc}
 use Rattle.terms.specs.declared.Field.{Field}
-use Rattle.terms.specs.declared.Field.the-variants.{SealInformation, Vendor, SealId, SealType, SealName, ListKind, CertificateList, ListedCertificate, ListedName, ListedDigest, Created, Start, End, Picture, PictureType, PictureData, Width, Height, SealCustomData, SealCustomId, SealCustomCritical, SealCustomValue, MakerCertificate, SealAlgorithm, SealSignedValue, SignedPart, SigningTime, OriginalDigest, PropertyText, SignedCustomData, SignedCustomId, SignedCustomCritical, SignedCustomValue, SignerCertificate, SignatureAlgorithm, SignatureValue, Stamp}
+use Rattle.terms.specs.declared.Field.the-variants.{SealInformation, Seal, Vendor, SealId, SealType, SealName, ListKind, CertificateList, ListedCertificate, ListedName, ListedDigest, Created, Start, End, Picture, PictureType, PictureData, Width, Height, SealCustomData, SealCustomId, SealCustomCritical, SealCustomValue, MakerCertificate, SealAlgorithm, SealSignedValue, SignedPart, SigningTime, OriginalDigest, PropertyText, SignedCustomData, SignedCustomId, SignedCustomCritical, SignedCustomValue, SignerCertificate, SignatureAlgorithm, SignatureValue, Stamp}
 use Rattle.terms.specs.Names.{code, sameName}
 use Rattle.terms.specs.Numbers.{done, absent, other-tag, bad-boolean, left-over, bad-length, item-missing}
-use Rattle.terms.specs.Answer.{Res, good, fault, pick, bind, need, have, every, enough, same, Told, gives, told-one, told-two, told-none, refusal}
+use Rattle.terms.specs.Answer.{pick, bind, need, have, every, enough, same, Told, gives, told-one, told-two, told-none, refusal}
 use Rattle.terms.specs.Laws.Table.{Row, asks, answers, sameWhole, sameWholes, sameTold, agree, agreed}
 use Rattle.terms.specs.Digits.{digits, numberFrom, leading}
 use Rattle.heads.specs.Head.{spell, octets, tlv, unspell, size, opening, cut, head, outermost}
@@ -19,18 +19,19 @@ use Rattle.contents.specs.Integer.{sign, shortest, wellFormed, turned, value, s
 use Rattle.contents.specs.Text.{within, starts, follows, textFrom, partsFrom, isIdentifier}
 use Rattle.contents.specs.Time.{leap, monthLength, possible, isDigit, partFrom, zulu, timeFrom, timeCheck, timeRule}
 use Rattle.contents.specs.Rules.{integerRule, stringRule, octetsRule, bitsRule, identifierRule, booleanRule, also, onlyRule}
-use Rattle.layouts.specs.Layout.{Values, each, option, either, critical, encode}
+use Rattle.layouts.specs.Layout.{each, option, either, critical, encode}
 use Rattle.layouts.specs.Reading.{readBy, begins, finish, many, readOption, readFlag, readEither, read}
 use Rattle.layouts.specs.Sheet.{count, section, bit, sheetOption, sheetList, sheet, readCount, readSection, fillLeaf, times, unbit, fillFlag, fillOption, fillList, fill}
 use Rattle.layouts.specs.Whole.{recordAt, accept, finishSheet, acceptSheet, fit, fillSheet, writeRecord}
 use Rattle.layouts.specs.Fields.{Entry, eachFields, optionFields, eitherFields, flagFields, itemFields, fields, isField, first, bytesIn, isThere}
+use Rattle.layouts.specs.Places.{spot}
 use Rattle.records.specs.Record.{seal, signature}
-use Rattle.records.specs.Handing.{readSignature, recordAnswer, fillAnswer, writeAnswer, fieldAnswer, isListed, matchAnswer, isOneOf, valueAnswer, criticalAnswer, countAnswer}
+use Rattle.records.specs.Handing.{fieldsIn, recordAnswer, fillAnswer, writeAnswer, fieldAnswer, isListed, matchAnswer, isOneOf, valueAnswer, criticalAnswer, countAnswer}
 use Rattle.records.specs.Samples.{recordS, recordD}
 
 -- to name this one on a line is to name all that a reading, a sheet and a handing out compute with
 unfoldable pub evaluate : Unit {0}
-unfolding code sameName pick bind need have every enough same digits numberFrom leading spell octets tlv unspell size opening cut head outermost ask passes placeOf judge sign shortest wellFormed turned value shrink signOf stretch unstretch within starts follows textFrom partsFrom isIdentifier leap monthLength possible isDigit partFrom zulu timeFrom timeCheck timeRule integerRule stringRule octetsRule bitsRule identifierRule booleanRule also onlyRule each option either critical encode readBy begins finish many readOption readFlag readEither read count section bit sheetOption sheetList sheet readCount readSection fillLeaf times unbit fillFlag fillOption fillList fill recordAt accept finishSheet acceptSheet fit fillSheet writeRecord eachFields optionFields eitherFields flagFields itemFields fields isField first bytesIn isThere recordAnswer fillAnswer writeAnswer fieldAnswer isListed matchAnswer isOneOf valueAnswer criticalAnswer countAnswer sameWhole sameWholes sameTold agree
+unfolding code sameName pick bind need have every enough same digits numberFrom leading spell octets tlv unspell size opening cut head outermost ask passes placeOf judge sign shortest wellFormed turned value shrink signOf stretch unstretch within starts follows textFrom partsFrom isIdentifier leap monthLength possible isDigit partFrom zulu timeFrom timeCheck timeRule integerRule stringRule octetsRule bitsRule identifierRule booleanRule also onlyRule each option either critical encode readBy begins finish many readOption readFlag readEither read count section bit sheetOption sheetList sheet readCount readSection fillLeaf times unbit fillFlag fillOption fillList fill recordAt accept finishSheet acceptSheet fit fillSheet writeRecord eachFields optionFields eitherFields flagFields itemFields fields isField first bytesIn isThere recordAnswer fillAnswer writeAnswer fieldsIn fieldAnswer isListed matchAnswer isOneOf valueAnswer criticalAnswer countAnswer sameWhole sameWholes sameTold agree
 evaluate = tt
 
 abbrev at : ℕ → ℕ → Told
@@ -67,14 +68,35 @@ numbers-of-S : asks numbersS ≡ answers numbersS
 unfolding evaluate
 numbers-of-S = agreed numbersS tt
 
+-- where some of its parts stand: whether, start, length, items
+abbrev placesS : List (Field × List ℕ)
+placesS =
+    (SignedPart, 1 ∷ 3 ∷ 145 ∷ 0 ∷ [])
+    ∷ (Seal, 1 ∷ 9 ∷ 115 ∷ 0 ∷ [])
+    ∷ (Vendor, 1 ∷ 24 ∷ 0 ∷ 0 ∷ [])
+    ∷ (CertificateList, 1 ∷ 37 ∷ 5 ∷ 1 ∷ [])
+    ∷ (ListedCertificate, 1 ∷ 41 ∷ 1 ∷ 0 ∷ [])
+    ∷ (SealCustomData, 0 ∷ 0 ∷ 0 ∷ 0 ∷ [])
+    ∷ (SealSignedValue, 1 ∷ 123 ∷ 1 ∷ 0 ∷ [])
+    ∷ (Stamp, 0 ∷ 0 ∷ 0 ∷ 0 ∷ [])
+    ∷ []
+
+abbrev spots : List (Field × List ℕ) → List (List ℕ)
+spots [] = []
+spots (x ∷ xs) = spot (first (isField (x .0) 0) (fieldsIn signature recordS)) ∷ spots xs
+
+abbrev expectedSpots : List (Field × List ℕ) → List (List ℕ)
+expectedSpots [] = []
+expectedSpots (x ∷ xs) = x .1 ∷ expectedSpots xs
+
+places-of-S : spots placesS ≡ expectedSpots placesS
+unfolding evaluate
+places-of-S = refl
+
 -- ---- D, field by field, by name
 
-abbrev entriesIn : Res (Values signature) → List Entry
-entriesIn (good v) = fields signature v
-entriesIn (fault n p) = []
-
 abbrev entriesD : List Entry
-entriesD = entriesIn (readSignature recordD)
+entriesD = fieldsIn signature recordD
 
 -- a name, an index, and the bytes that the field must have
 abbrev Expected : Type 0

@@ -5,7 +5,7 @@ use mathlib.Core.Option.{Option, none, some}
 use mathlib.Core.List.{List, [], _∷_}
 use lib.ListN.{length}
 use Rattle.terms.specs.declared.Field.{Field}
-use Rattle.terms.specs.declared.Field.the-variants.{CertificateList, Created, End, Height, ListKind, ListedCertificate, ListedDigest, ListedEntry, ListedName, MakerCertificate, OriginalDigest, PictureData, PictureType, PropertyText, SealAlgorithm, SealCustomCritical, SealCustomData, SealCustomId, SealCustomItem, SealCustomValue, SealId, SealInformation, SealName, SealSignedValue, SealType, SignatureAlgorithm, SignatureValue, SignedCustomCritical, SignedCustomData, SignedCustomId, SignedCustomItem, SignedCustomValue, SignedPart, SignerCertificate, SigningTime, Stamp, Start, Vendor, Width}
+use Rattle.terms.specs.declared.Field.the-variants.{CertificateList, Created, End, Height, ListKind, ListedCertificate, ListedDigest, ListedName, MakerCertificate, OriginalDigest, PictureData, PictureType, PropertyText, SealAlgorithm, SealCustomCritical, SealCustomData, SealCustomId, SealCustomItem, SealCustomValue, SealId, SealInformation, SealName, SealSignedValue, SealType, SignatureAlgorithm, SignatureValue, SignedCustomCritical, SignedCustomData, SignedCustomId, SignedCustomItem, SignedCustomValue, SignedPart, SignerCertificate, SigningTime, Stamp, Start, Vendor, Width}
 use Rattle.terms.specs.Names.{sameName}
 use Rattle.terms.specs.Numbers.{done, absent, largest-record}
 use Rattle.terms.specs.Answer.{Res, good, fault, pick, same, bit, Told, gives, told-one, told-two, told-none, refusal, answered}
@@ -27,9 +27,6 @@ use Rattle.records.specs.declared.Items.the-variants.{Count, Absent as N
 
 abbrev pub readRecord : (r : Members) → List ℕ → Res (Values r)
 readRecord r w = accept largest-record r w
-
-abbrev pub readSignature : List ℕ → Res (Values signature)
-readSignature w = readRecord signature w
 
 -- "ACCEPTED and its length, or REFUSED, number, place"
 unfoldable pub recordAnswer : Members → List ℕ → Told

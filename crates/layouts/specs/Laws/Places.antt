@@ -150,12 +150,6 @@ module _ (f : Field) where
       (λ t. let u = noted-past x d λ e w. T-not (isField f 0 x) t (is-field x e (free-is x d w .0)) in
       rw (pick-no _ _ _ t) (found xs (noting x d) (length-noted x d ∙ l) (u ∙ h)))
 
--- noting keeps the table's size
-pub length-notes : (xs : List Entry) (d : List ℕ) → length (notes xs d) ≡ length d
-unfolding notes
-length-notes [] d = refl
-length-notes (x ∷ xs) d = length-notes xs (noting x d) ∙ length-noted x d
-
 -- the table that is made is the one that is asked for
 pub placed : (xs : List Entry) → Placed xs (notes xs (replicate table-size 0))
 unfolding slot
