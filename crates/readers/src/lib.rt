@@ -1,203 +1,20 @@
-// Reading a seal and a signature record: one reader over the table of layouts, which notes where each field stands.
-use heads::Seen;
+// Reading a seal and a signature record that are the whole input.
 use heads::Step;
-use items::Tag;
 use layouts::Outcome;
-use layouts::Tally;
-use tables::Form;
-use tables::Kind;
-use tables::Member;
 use tables::Shape;
-use terms::Field;
 ghost use mathlib.Core.Path.{_≡_};
 ghost use lib.ListN.{replicate};
-ghost use Rattle.items.specs.Scan.{tagByte};
 ghost use Rattle.layouts.specs.Places.{table-size, Placed};
 ghost use Rattle.layouts.specs.Whole.{toldOutcome};
 ghost use Rattle.records.specs.Record.{seal, signature};
 ghost use Rattle.records.specs.Handing.{recordAnswer, fieldsIn};
 ghost use Rattle.tables.specs.Table.{inner, layoutOf};
-ghost use Rattle.readers.specs.Machine.{leafWalk, listHeadAt, itemWalk, rowWalk, memberWalk, listWalk, recordWalk, outcomeOf};
-
-// The most bytes of a record, header included.
-const LARGEST_RECORD: usize = 65535;
-
-// The most items of a list.
-const MOST_ITEMS: usize = 64;
+ghost use Rattle.readers.specs.Outcome.{outcomeOf};
 
 // What reading a record comes to; and, where it was accepted, the table of its places.
 pub struct Reading {
     pub outcome: Outcome,
     pub places: [usize; 172],
-}
-
-// A primitive item under its name, and its index in a list: where what follows it starts.
-fn leaf(
-    s: &[u8],
-    form: Form,
-    name: Field,
-    index: usize,
-    at: usize,
-    end: usize,
-    places: &mut [usize],
-) -> Step
-    ensures { λ r. ⌜ (r, now (places .exit)) ≡ leafWalk form name index (now (s .entry)) at end (now (places .entry)) ⌝ }
-{
-    let h = leaves::leaf(s, form, at, end);
-    let Seen::Item(a, z) = h else {
-        return leaves::past(h);
-    };
-    places::note(places, name, index, a + tables::hidden_of(form), z, 0);
-    Step::Next(z)
-}
-
-// The head of a list: 15 if it has no item and needs one.
-fn list_head(s: &[u8], t: Tag, empty: bool, at: usize, end: usize) -> Seen
-    ensures { λ r. ⌜ r ≡ listHeadAt (tagByte t) empty (now (s .entry)) at end ⌝ }
-{
-    let h = items::head(s, t, at, end);
-    let Seen::Item(a, z) = h else {
-        return h;
-    };
-    if !texts::enough(a, z, empty) {
-        return Seen::Refused(15, at);
-    }
-    Seen::Item(a, z)
-}
-
-// An item under its name, up to its encloser's end: where what follows it starts, or the first refusal in it.
-fn item(
-    s: &[u8],
-    x: Shape,
-    name: Field,
-    index: usize,
-    at: usize,
-    end: usize,
-    places: &mut [usize],
-) -> Step
-    ensures { λ r. ⌜ (r, now (places .exit)) ≡ itemWalk (layoutOf x) name index (now (s .entry)) at end (now (places .entry)) ⌝ }
-{
-    let k = tables::kind_of(x);
-    match k {
-        Kind::Leaf(form) => leaf(s, form, name, index, at, end, places),
-        Kind::Node(t) => {
-            let h = items::head(s, t, at, end);
-            let Seen::Item(a, z) = h else {
-                return leaves::past(h);
-            };
-            places::note(places, name, index, at, z, 0);
-            row(s, x, index, a, z, places)
-        }
-        Kind::List(t, empty, each, y) => {
-            let h = list_head(s, t, empty, at, end);
-            let Seen::Item(a, z) = h else {
-                return leaves::past(h);
-            };
-            let c = list(s, y, each, a, z, places);
-            match c {
-                Tally::Refused(number, place) => Step::Refused(number, place),
-                Tally::Items(n) => {
-                    places::note(places, name, index, at, z, n);
-                    Step::Next(z)
-                }
-            }
-        }
-        Kind::Wrap(t, y) => {
-            let h = items::head(s, t, at, end);
-            let Seen::Item(a, z) = h else {
-                return leaves::past(h);
-            };
-            let r = item(s, y, name, index, a, z, places);
-            let Step::Next(q) = r else {
-                return r;
-            };
-            leaves::close(q, z)
-        }
-    }
-}
-
-// The members of a row, one after another, to the end: 5 if bytes are left over.
-fn row(s: &[u8], x: Shape, index: usize, at: usize, end: usize, places: &mut [usize]) -> Step
-    ensures { λ r. ⌜ (r, now (places .exit)) ≡ rowWalk (inner (layoutOf x)) index (now (s .entry)) at end (now (places .entry)) ⌝ }
-{
-    let members = tables::members_of(x);
-    let mut p = at;
-    let mut k: usize = 0;
-    while k < 6 {
-        let r = member(s, members[k], index, p, end, places);
-        let Step::Next(q) = r else {
-            return r;
-        };
-        p = q;
-        k += 1;
-    }
-    leaves::close(p, end)
-}
-
-// A member of a row.
-fn member(s: &[u8], m: Member, index: usize, at: usize, end: usize, places: &mut [usize]) -> Step
-    ensures { λ r. ⌜ (r, now (places .exit)) ≡ memberWalk m index (now (s .entry)) at end (now (places .entry)) ⌝ }
-{
-    match m {
-        Member::Blank => Step::Next(at),
-        Member::Known(w) => leaves::past(leaves::known(s, w, at, end)),
-        Member::Leaf(name, form) => leaf(s, form, name, index, at, end, places),
-        Member::Part(name, x) => item(s, x, name, index, at, end, places),
-        Member::Maybe(name, x) => {
-            if leaves::begins(s, tables::tag_of(x), at, end) {
-                return item(s, x, name, index, at, end, places);
-            }
-            Step::Next(at)
-        }
-        Member::Flag(name) => {
-            if leaves::begins(s, Tag::Boolean, at, end) {
-                return leaf(s, Form::Critical, name, index, at, end, places);
-            }
-            Step::Next(at)
-        }
-        Member::Kinds(kind, name, x, y) => {
-            let h = leaves::leaf(s, Form::ListKind, at, end);
-            let Seen::Item(a, z) = h else {
-                return leaves::past(h);
-            };
-            places::note(places, kind, index, a, z, 0);
-            if integers::is_one(s, a, z) {
-                return item(s, x, name, index, z, end, places);
-            }
-            item(s, y, name, index, z, end, places)
-        }
-    }
-}
-
-// The items of a list, one after another, to the end, and their number: 16 at the 65th.
-fn list(s: &[u8], x: Shape, name: Field, at: usize, end: usize, places: &mut [usize]) -> Tally
-    ensures { λ r. ⌜ (r, now (places .exit)) ≡ listWalk (layoutOf x) name 0 (now (s .entry)) at end (now (places .entry)) ⌝ }
-{
-    let mut p = at;
-    let mut k: usize = 0;
-    while p < end {
-        if k == MOST_ITEMS {
-            return Tally::Refused(16, p);
-        }
-        let r = item(s, x, name, k, p, end, places);
-        match r {
-            Step::Refused(number, place) => return Tally::Refused(number, place),
-            Step::Next(q) => p = q,
-        }
-        k += 1;
-    }
-    Tally::Items(k)
-}
-
-// A record at a position, whatever follows it: where it ends, or the first refusal in it.
-fn record(s: &[u8], x: Shape, at: usize, end: usize, places: &mut [usize]) -> Step
-    ensures { λ r. ⌜ (r, now (places .exit)) ≡ recordWalk (inner (layoutOf x)) (now (s .entry)) at end (now (places .entry)) ⌝ }
-{
-    let h = items::outermost(s, LARGEST_RECORD, Tag::Sequence, at, end);
-    let Seen::Item(a, z) = h else {
-        return leaves::past(h);
-    };
-    row(s, x, 0, a, z, places)
 }
 
 // A step as what a caller is told.
@@ -226,7 +43,7 @@ fn whole(s: &[u8], x: Shape) -> Reading
     ensures { λ r. ⌜ Placed (fieldsIn (inner (layoutOf x)) (now (s .entry))) (r .places) ⌝ }
 {
     let mut places = [0usize; 172];
-    let r = record(s, x, 0, s.len(), &mut places);
+    let r = walks::record(s, x, 0, s.len(), &mut places);
     let Step::Next(q) = r else {
         return refused(r);
     };

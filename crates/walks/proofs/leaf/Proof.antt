@@ -1,8 +1,8 @@
--- `readers::leaf`: what was taken is noted past the bytes that are never handed out.
+-- `walks::leaf`: what was taken is noted past the bytes that are never handed out.
 use borrow.Author.Needs.{needs}
-use Rattle.readers.specs.Laws.{leaf-refused, leaf-taken, rule-inside}
-use Rattle.readers.proofs.leaf.Statement.{statement}
-use Rattle.readers.proofs.leaf.Tie as tie
+use Rattle.walks.specs.Laws.{leaf-refused, leaf-taken, rule-inside}
+use Rattle.walks.proofs.leaf.Statement.{statement}
+use Rattle.walks.proofs.leaf.Tie as tie
 
 leaf-requires : tie.Need-leaf-requires
 leaf-requires c κs = search needs

@@ -1,8 +1,8 @@
--- `readers::record`: the outermost head, then the row.
-use Rattle.readers.specs.Laws.{record-refused, record-row}
+-- `walks::record`: the outermost head, then the row.
+use Rattle.walks.specs.Laws.{record-refused, record-row}
 use borrow.Author.Needs.{needs}
-use Rattle.readers.proofs.record.Statement.{statement}
-use Rattle.readers.proofs.record.Tie as tie
+use Rattle.walks.proofs.record.Statement.{statement}
+use Rattle.walks.proofs.record.Tie as tie
 
 outermost-requires : tie.Need-outermost-requires
 outermost-requires c κs = search needs

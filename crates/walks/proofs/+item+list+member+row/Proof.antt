@@ -3,23 +3,23 @@ use mathlib.Core.Path.{_≡_}
 use lib.ListN.{length}
 use borrow.Author.Needs.{needs}
 use Rattle.tables.specs.Table.{inner, layoutOf, membersOf}
-use Rattle.readers.specs.Machine.{rowWalk, listWalk}
-use Rattle.readers.specs.Laws.{size, sizes, sizeOf, from, below, item-leaf, node-refused, node-members, node-less, list-refused, list-bad, list-all, list-less, wrap-refused, wrap-inner, wrap-close, wrap-less, member-blank, member-known, member-leaf, member-part, maybe-yes, maybe-no, flag-yes, flag-no, kinds-refused, kinds-one, kinds-two, part-less, maybe-less, one-less, two-less, row-refused, row-next, member-smaller, row-fewer, row-over, row-first, size-first, row-whole, chain, over, many-16, many-bad, many-on, many-end}
+use Rattle.walks.specs.Walk.{rowWalk, listWalk}
+use Rattle.walks.specs.Laws.{size, sizes, sizeOf, from, below, item-leaf, node-refused, node-members, node-less, list-refused, list-bad, list-all, list-less, wrap-refused, wrap-inner, wrap-close, wrap-less, member-blank, member-known, member-leaf, member-part, maybe-yes, maybe-no, flag-yes, flag-no, kinds-refused, kinds-one, kinds-two, part-less, maybe-less, one-less, two-less, row-refused, row-next, member-smaller, row-fewer, row-over, row-first, size-first, row-whole, chain, over, many-16, many-bad, many-on, many-end}
 use Prim.Native.Nat.{ℕ, suc, _-_, _<_, _≤_}
 use borrow.Fn.Kinds.{In}
 use borrow.Fn.PlainCycle.{Measures, is, falls, and}
-use Rattle.readers.proofs.item.Reads as item
-use Rattle.readers.proofs.item.Kinds as item-kinds
-use Rattle.readers.proofs.+item+list+member+row.Lts-item as item-lts
-use Rattle.readers.proofs.list.Reads as list
-use Rattle.readers.proofs.list.Kinds as list-kinds
-use Rattle.readers.proofs.+item+list+member+row.Lts-list as list-lts
-use Rattle.readers.proofs.member.Reads as member
-use Rattle.readers.proofs.member.Kinds as member-kinds
-use Rattle.readers.proofs.+item+list+member+row.Lts-member as member-lts
-use Rattle.readers.proofs.row.Reads as row
-use Rattle.readers.proofs.row.Kinds as row-kinds
-use Rattle.readers.proofs.+item+list+member+row.Lts-row as row-lts
+use Rattle.walks.proofs.item.Reads as item
+use Rattle.walks.proofs.item.Kinds as item-kinds
+use Rattle.walks.proofs.+item+list+member+row.Lts-item as item-lts
+use Rattle.walks.proofs.list.Reads as list
+use Rattle.walks.proofs.list.Kinds as list-kinds
+use Rattle.walks.proofs.+item+list+member+row.Lts-list as list-lts
+use Rattle.walks.proofs.member.Reads as member
+use Rattle.walks.proofs.member.Kinds as member-kinds
+use Rattle.walks.proofs.+item+list+member+row.Lts-member as member-lts
+use Rattle.walks.proofs.row.Reads as row
+use Rattle.walks.proofs.row.Kinds as row-kinds
+use Rattle.walks.proofs.+item+list+member+row.Lts-row as row-lts
 use Rattle.integers.proofs.is_one.Reads as is-one-reads
 use Rattle.items.proofs.head.Reads as head-reads
 use Rattle.leaves.proofs.begins.Reads as begins-reads
@@ -28,13 +28,13 @@ use Rattle.leaves.proofs.known.Reads as known-reads
 use Rattle.leaves.proofs.leaf.Reads as leaf-reads
 use Rattle.leaves.proofs.past.Reads as past-reads
 use Rattle.places.proofs.note.Reads as note-reads
-use Rattle.readers.proofs.leaf.Reads as leaf-reads′
-use Rattle.readers.proofs.list_head.Reads as list-head-reads
+use Rattle.walks.proofs.leaf.Reads as leaf-reads′
+use Rattle.walks.proofs.list_head.Reads as list-head-reads
 use Rattle.tables.proofs.kind_of.Reads as kind-of-reads
 use Rattle.tables.proofs.members_of.Reads as members-of-reads
 use Rattle.tables.proofs.tag_of.Reads as tag-of-reads
-use Rattle.readers.proofs.+item+list+member+row.{statement}
-use Rattle.readers.proofs.+item+list+member+row.Tie.{close}
+use Rattle.walks.proofs.+item+list+member+row.{statement}
+use Rattle.walks.proofs.+item+list+member+row.Tie.{close}
 
 abbrev μ-item : Measures 2 item-kinds.ps ℕ
 μ-item κs a = size (layoutOf (a .1 .0))

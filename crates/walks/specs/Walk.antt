@@ -1,4 +1,4 @@
--- What the functions over the table answer. Assumes nothing.
+-- What the functions over the table answer, and the table of places after each. Assumes nothing.
 use Prim.Native.Nat.{ℕ, _-_}
 use mathlib.Core.Bool.{Bool, _||_}
 use mathlib.Core.List.{List}
@@ -11,8 +11,6 @@ use Rattle.heads.specs.declared.Seen.{Seen}
 use Rattle.heads.specs.declared.Seen.the-variants.{Item as At, Refused as Bad}
 use Rattle.heads.specs.declared.Step.{Step}
 use Rattle.heads.specs.declared.Step.the-variants.{Next, Refused}
-use Rattle.layouts.specs.declared.Outcome.{Outcome}
-use Rattle.layouts.specs.declared.Outcome.the-variants.{Length, Refused as Unread}
 use Rattle.contents.specs.Integer.{value, is}
 use Rattle.layouts.specs.Layout.{Item, leaf, Members, Member as Part, maybe, flag, choose}
 use Rattle.layouts.specs.Scan.{thenJudge, scan, scans, scanPart, recordScan}
@@ -24,8 +22,6 @@ use Rattle.tables.specs.declared.Form.the-variants as form
 use Rattle.tables.specs.declared.Member.{Member}
 use Rattle.tables.specs.declared.Member.the-variants as member
 use Rattle.tables.specs.Table.{leafOf, knownOf, layoutOf}
-
--- ---- what each function answers, and the table of places after it
 
 unfoldable pub leafWalk : Form → Field → ℕ → List ℕ → ℕ → ℕ → List ℕ → Step × List ℕ
 leafWalk l f k s p e d = (scan (leaf (leafOf l)) s p e, leafMarks (leafOf l) f k s p e d)
@@ -66,8 +62,3 @@ recordWalk r s p e d = (recordScan largest-record r s p e, recordMarks largest-r
 abbrev pub counted : ℕ → Tally → Step
 counted e (Items n) = Next e
 counted e (Uncounted n p) = Refused n p
-
--- a step as what a caller is told
-abbrev pub outcomeOf : Step → Outcome
-outcomeOf (Next n) = Length n
-outcomeOf (Refused n p) = Unread n p

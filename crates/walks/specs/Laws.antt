@@ -1,0 +1,497 @@
+-- What the functions over the table answer, a law for each step. Assumes nothing.
+use mathlib.Core.Path.{_≡_, refl, sym, ap, _∙_}
+use Prim.Native.Nat.{ℕ, suc, zero, _+_, _-_, _≤_, _<_}
+use native.Mathlib.Omega.{arith}
+use native.Mathlib.Numerals.{add-one}
+use mathlib.Core.Bool.{Bool, true, false, _||_}
+use mathlib.Core.List.{List, [], _∷_}
+use lib.ListN.{length, getD, take, drop, length-append, length-drop}
+use lib.Seq.{slice, drop-cons, drop-nil}
+use lib.Dec.{ltb}
+use borrow.Author.Tests.{lt-ltb, le-ltb}
+use Rattle.terms.specs.declared.Field.{Field}
+use Rattle.terms.specs.Numbers.{bad-integer, no-item, too-many-items, largest-record}
+use Rattle.terms.specs.Answer.{Res, good, fault, pick}
+use Rattle.heads.specs.Head.{Cut, head, tlv, before}
+use Rattle.heads.specs.Laws.Head.{head-back, length-tlv}
+use Rattle.heads.specs.Scan.{seen, headAt, outermostAt}
+use Rattle.heads.specs.declared.Seen.{Seen}
+use Rattle.heads.specs.declared.Seen.the-variants.{Item as At, Refused as Bad}
+use Rattle.heads.specs.declared.Step.{Step}
+use Rattle.heads.specs.declared.Step.the-variants.{Next, Refused}
+use Rattle.items.specs.declared.Tag.{Tag}
+use Rattle.items.specs.declared.Tag.the-variants as tag
+use Rattle.items.specs.Scan.{tagByte}
+use Rattle.contents.specs.Content.{Check, fine, wrong, ask}
+use Rattle.contents.specs.Integer.{wellFormed, value, is, isKind}
+use Rattle.contents.specs.Rules.{integerRule}
+use Rattle.integers.specs.Number.{isOne}
+use Rattle.layouts.specs.Layout.{Item, leaf, node, list, wrap, Members, end, _▸_, Member as Part, known, one, maybe, flag, choose, tagOf}
+use Rattle.layouts.specs.Scan.{thenSeen, thenStep, thenJudge, judgeAt, ruleAt, leafAt, beginsAt, closeAt, scanMany, scan, scanPart, recordScan}
+use Rattle.layouts.specs.Laws.Scan.{whole}
+use Rattle.layouts.specs.Whole.{sequence}
+use Rattle.leaves.specs.Leaf.{wordTag, wordRule, pastOf}
+use Rattle.tables.specs.declared.Form.{Form}
+use Rattle.tables.specs.declared.Form.the-variants as form
+use Rattle.tables.specs.declared.Word.{Word}
+use Rattle.tables.specs.declared.Word.the-variants as word
+use Rattle.tables.specs.declared.Shape.{Shape}
+use Rattle.tables.specs.declared.Kind.{Kind}
+use Rattle.tables.specs.declared.Kind.the-variants as kind
+use Rattle.tables.specs.declared.Member.{Member}
+use Rattle.tables.specs.declared.Member.the-variants as member
+use Rattle.tables.specs.Table.{leafOf, knownOf, inner, layoutOf, itemOf, membersOf}
+use Rattle.layouts.specs.declared.Tally.{Tally}
+use Rattle.layouts.specs.declared.Tally.the-variants.{Items, Refused as Uncounted}
+use Rattle.layouts.specs.Places.{noted}
+use Rattle.layouts.specs.Marks.{afterSeen, afterStep, afterTally, thenTally, tally, manyMarks, leafMarks, marks, marksAll, recordMarks}
+use Rattle.walks.specs.Walk.{leafWalk, listHeadAt, itemWalk, rowWalk, memberWalk, listWalk, recordWalk, counted}
+
+-- ---- a number that falls from an item to what stands in it
+
+unfoldable mutual
+  pub size : Item → ℕ
+  size (leaf l) = 0
+  size (node t r) = suc (suc (sizes r))
+  size (list t e n f i) = suc (suc (size i))
+  size (wrap t i) = suc (size i)
+
+  pub sizes : Members → ℕ
+  sizes end = 0
+  sizes (m ▸ r) = sizePart m + sizes r
+
+  pub sizePart : Part → ℕ
+  sizePart (known l k n) = 0
+  sizePart (one f i) = suc (size i)
+  sizePart (maybe f i) = suc (size i)
+  sizePart (flag f) = 0
+  sizePart (choose f l t g i j) = suc (size i + size j)
+
+unfoldable pub sizeOf : Member → ℕ
+sizeOf member.Blank = 0
+sizeOf (member.Known w) = 0
+sizeOf (member.Leaf f l) = 0
+sizeOf (member.Part f x) = suc (size (layoutOf x))
+sizeOf (member.Maybe f x) = suc (size (layoutOf x))
+sizeOf (member.Flag f) = 0
+sizeOf (member.Kinds f g x y) = suc (size (layoutOf x) + size (layoutOf y))
+
+pub below : (a b t : ℕ) → b ≡ t → a < b → a < t
+below a b t h k = omega arith
+
+-- ---- an item
+
+passed : (x : Seen) → pastOf x ≡ thenSeen x (λ a z. Next z)
+passed (At a z) = refl
+passed (Bad n p) = refl
+
+-- what was taken is a head whose content is right
+rule-taken : (t : ℕ) (rule : List ℕ → Check) (s : List ℕ) (p e a z : ℕ) → ruleAt t rule s p e ≡ At a z → (headAt t s p e ≡ At a z) × (rule (slice a z s) ≡ fine)
+unfolding ruleAt
+rule-taken t rule s p e a z h = go (headAt t s p e) refl h
+  where
+    same-item : (a z a′ z′ : ℕ) → At a′ z′ ≡ At a z → (a′ ≡ a) × (z′ ≡ z)
+    same-item a z a′ z′ g = (cc, cc)
+
+    judged : (k : Check) (a′ z′ : ℕ) → headAt t s p e ≡ At a′ z′ → rule (slice a′ z′ s) ≡ k → judgeAt k p a′ z′ ≡ At a z → (headAt t s p e ≡ At a z) × (rule (slice a z s) ≡ fine)
+    judged fine a′ z′ o q g = let b = same-item a z a′ z′ g in (rw (← b .0, ← b .1) o, rw (← b .0, ← b .1) q)
+    judged (wrong n x) a′ z′ o q g = let y : _≡_ {A = ℕ} 0 1 = cc in let f : ⊥ = omega arith in absurd f
+
+    go : (x : Seen) → headAt t s p e ≡ x → (thenJudge x λ a z. judgeAt (rule (slice a z s)) p a z) ≡ At a z → (headAt t s p e ≡ At a z) × (rule (slice a z s) ≡ fine)
+    go (At a′ z′) o g = judged (rule (slice a′ z′ s)) a′ z′ o refl g
+    go (Bad n q) o g = let y : _≡_ {A = ℕ} 0 1 = cc in let f : ⊥ = omega arith in absurd f
+
+take-short : (n : ℕ) (l : List ℕ) → length (take n l) ≤ length l
+take-short zero l = omega arith
+take-short (suc n) [] = omega arith
+take-short (suc n) (x ∷ l) = let h = take-short n l in omega arith
+
+-- a head ends in the slice
+head-inside : (t : ℕ) (s : List ℕ) (p e a z : ℕ) → headAt t s p e ≡ At a z → a ≤ length s
+unfolding headAt
+head-inside t s p e a z h = go (head t (slice p e s) p) refl h
+  where
+    go : (x : Res Cut) → head t (slice p e s) p ≡ x → seen x ≡ At a z → a ≤ length s
+    go (good c) o g =
+        let b = head-back t (slice p e s) p c o in
+        let n : length (slice p e s) ≡ length (take e s) - p = length-drop p (take e s) in
+        let m = take-short e s in
+        let k : length (slice p e s) ≡ before (length (c .0)) + length (c .0) + length (c .1) =
+        ap length (b .0) ∙ length-append (tlv t (c .0)) (c .1) ∙ ap (λ (x : ℕ). x + length (c .1)) (length-tlv t (c .0)) in
+        let q : c .2 ≡ a = cc in
+        let r = b .1 in
+        omega arith
+    go (fault n q) o g = let y : _≡_ {A = ℕ} 0 1 = cc in let f : ⊥ = omega arith in absurd f
+
+-- a content that was taken starts in the slice
+pub rule-inside : (t : ℕ) (rule : List ℕ → Check) (s : List ℕ) (p e a z : ℕ) (h : Seen) → h ≡ ruleAt t rule s p e → h ≡ At a z → a ≤ length s
+rule-inside t rule s p e a z h j b = head-inside t s p e a z (rule-taken t rule s p e a z (sym j ∙ b) .0)
+
+-- a list's items, counted, are its items, read
+tally-many : (f : ℕ → Step) (n j p e : ℕ) → scanMany f n p e ≡ counted e (tally f n j p e)
+unfolding scanMany tally pick
+tally-many f zero j p e = go (ltb p e)
+  where
+    go : (b : Bool) → pick b (Refused too-many-items p) (Next e) ≡ counted e (pick b (Uncounted too-many-items p) (Items j))
+    go true = refl
+    go false = refl
+tally-many f (suc n) j p e = go (λ q. tally-many f n (suc j) q e) (ltb p e) (f p)
+  where
+    go : ((q : ℕ) → scanMany f n q e ≡ counted e (tally f n (suc j) q e)) → (b : Bool) (x : Step) → pick b (thenStep x λ q. scanMany f n q e) (Next e) ≡ counted e (pick b (thenTally x λ q. tally f n (suc j) q e) (Items j))
+    go h true (Next q) = h q
+    go h true (Refused m q) = refl
+    go h false x = refl
+
+-- what follows a head and a test follows the head that passed it
+seen-passed : (h : Seen) (t : ℕ → ℕ → Bool) (n p : ℕ) (f g : ℕ → ℕ → Step) → ((a z : ℕ) → f a z ≡ g a z)
+    → (thenSeen h λ a z. pick (t a z) (f a z) (Refused n p)) ≡ (thenSeen (thenJudge h λ a z. pick (t a z) (At a z) (Bad n p)) λ a z. g a z)
+unfolding pick
+seen-passed (At a z) t n p f g e = go (t a z)
+  where
+    go : (b : Bool) → pick b (f a z) (Refused n p) ≡ (thenSeen (pick b (At a z) (Bad n p)) λ a z. g a z)
+    go true = e a z
+    go false = refl
+seen-passed (Bad m q) t n p f g e = refl
+
+after-passed : (h : Seen) (t : ℕ → ℕ → Bool) (n p : ℕ) (d : List ℕ) (f : ℕ → ℕ → List ℕ)
+    → (afterSeen h d λ a z. pick (t a z) (f a z) d) ≡ (afterSeen (thenJudge h λ a z. pick (t a z) (At a z) (Bad n p)) d λ a z. f a z)
+unfolding pick
+after-passed (At a z) t n p d f = go (t a z)
+  where
+    go : (b : Bool) → pick b (f a z) d ≡ (afterSeen (pick b (At a z) (Bad n p)) d λ a z. f a z)
+    go true = refl
+    go false = refl
+after-passed (Bad m q) t n p d f = refl
+
+-- a list is its head, then its items
+module _ (t : ℕ) (o : Bool) (n : ℕ) (g : Field) (i : Item) where
+  list-scan : (s : List ℕ) (p e : ℕ) → scan (list t o n g i) s p e ≡ (thenSeen (listHeadAt t o s p e) λ a z. counted z (tally (λ q. scan i s q z) n 0 a z))
+  unfolding scan listHeadAt
+  list-scan s p e = seen-passed (headAt t s p e) (λ a z. o || ltb a z) no-item p _ _ λ a z. tally-many (λ q. scan i s q z) n 0 a z
+
+  list-marks : (f : Field) (k : ℕ) (s : List ℕ) (p e : ℕ) (d : List ℕ) → marks (list t o n g i) f k s p e d
+      ≡ (afterSeen (listHeadAt t o s p e) d λ a z. afterTally (tally (λ q. scan i s q z) n 0 a z) (manyMarks (λ q. scan i s q z) (λ j q x. marks i g j s q z x) n 0 a z d) λ c.
+      noted f k p z c (manyMarks (λ q. scan i s q z) (λ j q x. marks i g j s q z x) n 0 a z d))
+  unfolding marks listHeadAt
+  list-marks f k s p e d = after-passed (headAt t s p e) (λ a z. o || ltb a z) no-item p d _
+
+-- two answers at once, and each of them
+both : {A : Type 0} {x y : A} {d d′ : List ℕ} → x ≡ y → d ≡ d′ → _≡_ {A = A × List ℕ} (x, d) (y, d′)
+both e f = rw (e, f) refl
+
+pub answers : {A : Type 0} {x y : A × List ℕ} → x ≡ y → x .0 ≡ y .0
+answers {A} h = ap (λ (z : A × List ℕ). z .0) h
+
+pub tables : {A : Type 0} {x y : A × List ℕ} → x ≡ y → x .1 ≡ y .1
+tables {A} h = ap (λ (z : A × List ℕ). z .1) h
+
+module _ (f : Field) (n : ℕ) (s : List ℕ) (p e : ℕ) (d : List ℕ) where
+  module _ (l : Form) (h : Seen) (j : h ≡ leafAt (leafOf l) s p e) where
+    pub leaf-refused : (m q : ℕ) (y : Step) → h ≡ Bad m q → y ≡ pastOf h → (y, d) ≡ leafWalk l f n s p e d
+    unfolding leafWalk scan leafMarks
+    leaf-refused m q y b g = both (rw (← j) (g ∙ passed h)) (rw (← j, b))
+
+    pub leaf-taken : (a z i : ℕ) (d′ : List ℕ) → h ≡ At a z → i ≡ leafOf l .hidden → d′ ≡ noted f n (a + i) z 0 d → (Next z, d′) ≡ leafWalk l f n s p e d
+    unfolding leafWalk scan leafMarks
+    leaf-taken a z i d′ b o g = both (rw (← j, b)) (rw (← j, b, ← o) g)
+
+  module _ (x : Shape) (k : Kind) (l : layoutOf x ≡ itemOf x k) where
+    abbrev Reads : Step → List ℕ → Type 0
+    Reads y d′ = (y, d′) ≡ itemWalk (layoutOf x) f n s p e d
+
+    pub item-leaf : (c : Form) (y : Step) (d′ : List ℕ) → k ≡ kind.Leaf c → (y, d′) ≡ leafWalk c f n s p e d → Reads y d′
+    unfolding itemWalk leafWalk marks
+    item-leaf c y d′ i g = both (rw (l, i) (answers g)) (rw (l, i) (tables g))
+
+    module _ (t : Tag) (h : Seen) (j : h ≡ headAt (tagByte t) s p e) where
+      module _ (i : k ≡ kind.Node t) where
+        pub node-refused : (m q : ℕ) (y : Step) → h ≡ Bad m q → y ≡ pastOf h → Reads y d
+        unfolding itemWalk scan marks
+        node-refused m q y b g = both (rw (l, i, ← j, b) (g ∙ ap pastOf b)) (rw (l, i, ← j, b))
+
+        pub node-members : (a z : ℕ) (y : Step) (d₁ d₂ : List ℕ) → h ≡ At a z → d₁ ≡ noted f n p z 0 d → (y, d₂) ≡ rowWalk (inner (layoutOf x)) n s a z d₁ → Reads y d₂
+        unfolding itemWalk rowWalk scan marks
+        node-members a z y d₁ d₂ b o g =
+            let q : layoutOf x ≡ itemOf x (kind.Node t) = l ∙ ap (itemOf x) i in
+            both (answers g ∙ sym (ap (λ (m : Item). scan m s p e) q ∙ rw (← j, b)))
+            (tables g ∙ ap (marksAll (inner (layoutOf x)) n s a z) o ∙ sym (ap (λ (m : Item). marks m f n s p e d) q ∙ rw (← j, b)))
+
+      module _ (u : Shape) (i : k ≡ kind.Wrap t u) where
+        pub wrap-refused : (m q : ℕ) (y : Step) → h ≡ Bad m q → y ≡ pastOf h → Reads y d
+        unfolding itemWalk scan marks
+        wrap-refused m q y b g = both (rw (l, i, ← j, b) (g ∙ ap pastOf b)) (rw (l, i, ← j, b))
+
+        module _ (a z : ℕ) (b : h ≡ At a z) (r : Step) (d₁ : List ℕ) (w : (r, d₁) ≡ itemWalk (layoutOf u) f n s a z d) where
+          pub wrap-inner : (n q : ℕ) → r ≡ Refused n q → Reads r d₁
+          unfolding itemWalk scan marks
+          wrap-inner n′ q o = both (rw (l, i, ← j, b, ← answers w, o)) (rw (l, i, ← j, b) (tables w))
+
+          pub wrap-close : (q : ℕ) (y : Step) → r ≡ Next q → y ≡ closeAt q z → Reads y d₁
+          unfolding itemWalk scan marks
+          wrap-close q y o g = both (rw (l, i, ← j, b, ← answers w, o) g) (rw (l, i, ← j, b) (tables w))
+
+    module _ (t : Tag) (o : Bool) (g : Field) (u : Shape) (i : k ≡ kind.List t o g u) (h : Seen) (j : h ≡ listHeadAt (tagByte t) o s p e) where
+      pub list-refused : (m q : ℕ) (y : Step) → h ≡ Bad m q → y ≡ pastOf h → Reads y d
+      unfolding itemWalk
+      list-refused m q y b r =
+          rw (l, i) (both (rw (list-scan (tagByte t) o 64 g (layoutOf u) s p e, ← j, b) (r ∙ ap pastOf b)) (rw (list-marks (tagByte t) o 64 g (layoutOf u) f n s p e d, ← j, b)))
+
+      module _ (a z : ℕ) (b : h ≡ At a z) (c : Tally) (d₁ : List ℕ) (r : (c, d₁) ≡ listWalk (layoutOf u) g 0 s a z d) where
+        pub list-bad : (n q : ℕ) → c ≡ Uncounted n q → Reads (Refused n q) d₁
+        unfolding itemWalk listWalk
+        list-bad n′ q y =
+            rw (l, i) (both (rw (list-scan (tagByte t) o 64 g (layoutOf u) s p e, ← j, b, ← answers r, y)) (rw (list-marks (tagByte t) o 64 g (layoutOf u) f n s p e d, ← j, b, ← answers r, y) (tables r)))
+
+        pub list-all : (n′ : ℕ) (d₂ : List ℕ) → c ≡ Items n′ → d₂ ≡ noted f n p z n′ d₁ → Reads (Next z) d₂
+        unfolding itemWalk listWalk
+        list-all n′ d₂ y y′ =
+            rw (l, i) (both (rw (list-scan (tagByte t) o 64 g (layoutOf u) s p e, ← j, b, ← answers r, y)) (rw (list-marks (tagByte t) o 64 g (layoutOf u) f n s p e d, ← j, b, ← answers r, y, ← tables r) y′))
+
+pub node-less : (x : Shape) (k : Kind) (t : Tag) → layoutOf x ≡ itemOf x k → k ≡ kind.Node t → suc (sizes (inner (layoutOf x))) < size (layoutOf x)
+unfolding size
+node-less x k t l i = let e : size (layoutOf x) ≡ suc (suc (sizes (inner (layoutOf x)))) = ap size (l ∙ ap (itemOf x) i) in omega arith
+
+pub list-less : (x : Shape) (k : Kind) (t : Tag) (o : Bool) (f : Field) (u : Shape) → layoutOf x ≡ itemOf x k → k ≡ kind.List t o f u → suc (size (layoutOf u)) < size (layoutOf x)
+unfolding size
+list-less x k t o f u l i = let e : size (layoutOf x) ≡ suc (suc (size (layoutOf u))) = ap size (l ∙ ap (itemOf x) i) in omega arith
+
+pub wrap-less : (x : Shape) (k : Kind) (t : Tag) (u : Shape) → layoutOf x ≡ itemOf x k → k ≡ kind.Wrap t u → size (layoutOf u) < size (layoutOf x)
+unfolding size
+wrap-less x k t u l i = let e : size (layoutOf x) ≡ suc (size (layoutOf u)) = ap size (l ∙ ap (itemOf x) i) in omega arith
+
+-- ---- a member
+
+fine-well : (c : List ℕ) → integerRule isKind c ≡ fine → wellFormed c ≡ true
+unfolding integerRule ask
+fine-well c h = go (wellFormed c) _ h
+  where
+    go : (b : Bool) (k : Check) → ask b bad-integer k ≡ fine → b ≡ true
+    go true k g = refl
+    go false k g = let y : _≡_ {A = ℕ} 0 1 = cc in let f : ⊥ = omega arith in absurd f
+
+-- a kind that was taken is 1 just where its number is
+one-is : (s : List ℕ) (p e a z : ℕ) (h : Seen) → h ≡ leafAt (leafOf form.ListKind) s p e → h ≡ At a z → isOne (slice a z s) ≡ is 1 (value (slice a z s))
+unfolding isOne
+one-is s p e a z h j b = rw (fine-well (slice a z s) (rule-taken 0x02 (integerRule isKind) s p e a z (sym j ∙ b) .1))
+
+known-word : (w : Word) (s : List ℕ) (p e : ℕ) → scanPart (knownOf w) s p e ≡ thenSeen (ruleAt (wordTag w) (wordRule w) s p e) λ a z. Next z
+unfolding scan
+known-word word.Es s p e = refl
+known-word word.Four s p e = refl
+
+module _ (m : Member) (n : ℕ) (s : List ℕ) (p e : ℕ) (d : List ℕ) where
+  abbrev ReadsPart : Step → List ℕ → Type 0
+  ReadsPart y d′ = (y, d′) ≡ memberWalk m n s p e d
+
+  pub member-blank : m ≡ member.Blank → ReadsPart (Next p) d
+  unfolding memberWalk
+  member-blank i = rw i refl
+
+  pub member-known : (w : Word) (h : Seen) (y : Step) → m ≡ member.Known w → h ≡ ruleAt (wordTag w) (wordRule w) s p e → y ≡ pastOf h → ReadsPart y d
+  unfolding memberWalk
+  member-known w h y i j g = rw i (both (g ∙ passed h ∙ ap (λ (x : Seen). thenSeen x λ a z. Next z) j ∙ sym (known-word w s p e)) refl)
+
+  pub member-leaf : (f : Field) (l : Form) (y : Step) (d′ : List ℕ) → m ≡ member.Leaf f l → (y, d′) ≡ leafWalk l f n s p e d → ReadsPart y d′
+  unfolding memberWalk
+  member-leaf f l y d′ i g = rw i g
+
+  pub member-part : (f : Field) (x : Shape) (y : Step) (d′ : List ℕ) → m ≡ member.Part f x → (y, d′) ≡ itemWalk (layoutOf x) f n s p e d → ReadsPart y d′
+  unfolding memberWalk
+  member-part f x y d′ i g = g ∙ sym (ap (λ (k : Member). memberWalk k n s p e d) i)
+
+  module _ (f : Field) (x : Shape) (t : Tag) (b : Bool) (i : m ≡ member.Maybe f x) (j : tagByte t ≡ tagOf (layoutOf x)) (h : b ≡ beginsAt (tagByte t) s p e) where
+    pub maybe-yes : (y : Step) (d′ : List ℕ) → b ≡ true → (y, d′) ≡ itemWalk (layoutOf x) f n s p e d → ReadsPart y d′
+    unfolding memberWalk itemWalk scan marks pick
+    maybe-yes y d′ o g = rw i (both (rw (← j, ← h, o) (answers g)) (rw (← j, ← h, o) (tables g)))
+
+    pub maybe-no : b ≡ false → ReadsPart (Next p) d
+    unfolding memberWalk scan marks pick
+    maybe-no o = rw i (both (rw (← j, ← h, o)) (rw (← j, ← h, o)))
+
+  module _ (f : Field) (b : Bool) (i : m ≡ member.Flag f) (h : b ≡ beginsAt (tagByte tag.Boolean) s p e) where
+    pub flag-yes : (y : Step) (d′ : List ℕ) → b ≡ true → (y, d′) ≡ leafWalk form.Critical f n s p e d → ReadsPart y d′
+    unfolding memberWalk leafWalk scan marks pick
+    flag-yes y d′ o g = rw i (both (rw (← h, o) (answers g)) (rw (← h, o) (tables g)))
+
+    pub flag-no : b ≡ false → ReadsPart (Next p) d
+    unfolding memberWalk scan marks pick
+    flag-no o = rw i (both (rw (← h, o)) (rw (← h, o)))
+
+  module _ (f g : Field) (x u : Shape) (h : Seen) (i : m ≡ member.Kinds f g x u) (j : h ≡ leafAt (leafOf form.ListKind) s p e) where
+    pub kinds-refused : (k q : ℕ) (y : Step) → h ≡ Bad k q → y ≡ pastOf h → ReadsPart y d
+    unfolding memberWalk scan marks
+    kinds-refused k q y b o = rw i (both (rw (← j, b) (o ∙ ap pastOf b)) (rw (← j, b)))
+
+    module _ (a z : ℕ) (b : h ≡ At a z) (t : Bool) (o : t ≡ isOne (slice a z s)) (d₁ : List ℕ) (w : d₁ ≡ noted f n a z 0 d) where
+      -- what is noted of the kind
+      kind-marks : d₁ ≡ leafMarks (leafOf form.ListKind) f n s p e d
+      unfolding leafMarks
+      kind-marks = rw (← j, b) (w ∙ ap (λ (c : ℕ). noted f n c z 0 d) (omega arith))
+
+      pub kinds-one : (y : Step) (d′ : List ℕ) → t ≡ true → (y, d′) ≡ itemWalk (layoutOf x) g n s z e d₁ → ReadsPart y d′
+      unfolding memberWalk itemWalk scan marks pick
+      kinds-one y d′ v q = rw i (both (rw (← j, b, ← one-is s p e a z h j b, ← o, v) (answers q)) (rw (← kind-marks, ← j, b, ← one-is s p e a z h j b, ← o, v) (tables q)))
+
+      pub kinds-two : (y : Step) (d′ : List ℕ) → t ≡ false → (y, d′) ≡ itemWalk (layoutOf u) g n s z e d₁ → ReadsPart y d′
+      unfolding memberWalk itemWalk scan marks pick
+      kinds-two y d′ v q = rw i (both (rw (← j, b, ← one-is s p e a z h j b, ← o, v) (answers q)) (rw (← kind-marks, ← j, b, ← one-is s p e a z h j b, ← o, v) (tables q)))
+
+-- what a member holds is smaller
+module _ (m : Member) where
+  pub part-less : (f : Field) (x : Shape) → m ≡ member.Part f x → size (layoutOf x) < sizeOf m
+  unfolding sizeOf
+  part-less f x i = rw i (omega arith)
+
+  pub maybe-less : (f : Field) (x : Shape) → m ≡ member.Maybe f x → size (layoutOf x) < sizeOf m
+  unfolding sizeOf
+  maybe-less f x i = rw i (omega arith)
+
+  pub one-less : (f g : Field) (x y : Shape) → m ≡ member.Kinds f g x y → size (layoutOf x) < sizeOf m
+  unfolding sizeOf
+  one-less f g x y i = rw i (omega arith)
+
+  pub two-less : (f g : Field) (x y : Shape) → m ≡ member.Kinds f g x y → size (layoutOf y) < sizeOf m
+  unfolding sizeOf
+  two-less f g x y i = rw i (omega arith)
+
+-- ---- a row
+
+-- a row is its first member, then the rest
+abbrev onward : Step × List ℕ → (ℕ → List ℕ → Step × List ℕ) → Step × List ℕ
+onward w k = (thenStep (w .0) λ q. k q (w .1) .0, afterStep (w .0) (w .1) λ q. k q (w .1) .1)
+
+row-split : (m : Member) (ms : List Member) (n : ℕ) (s : List ℕ) (p e : ℕ) (d : List ℕ) → rowWalk (membersOf (m ∷ ms)) n s p e d ≡ (onward (memberWalk m n s p e d) λ q t. rowWalk (membersOf ms) n s q e t)
+unfolding rowWalk memberWalk itemWalk leafWalk scan marks
+row-split member.Blank ms n s p e d = refl
+row-split (member.Known word.Es) ms n s p e d = refl
+row-split (member.Known word.Four) ms n s p e d = refl
+row-split (member.Leaf f l) ms n s p e d = refl
+row-split (member.Part f x) ms n s p e d = refl
+row-split (member.Maybe f x) ms n s p e d = refl
+row-split (member.Flag f) ms n s p e d = refl
+row-split (member.Kinds f g x y) ms n s p e d = refl
+
+size-split : (m : Member) (ms : List Member) → sizeOf m + sizes (membersOf ms) ≤ sizes (membersOf (m ∷ ms))
+unfolding size sizeOf
+size-split member.Blank ms = omega arith
+size-split (member.Known word.Es) ms = omega arith
+size-split (member.Known word.Four) ms = omega arith
+size-split (member.Leaf f l) ms = omega arith
+size-split (member.Part f x) ms = omega arith
+size-split (member.Maybe f x) ms = omega arith
+size-split (member.Flag f) ms = omega arith
+size-split (member.Kinds f g x y) ms = omega arith
+
+-- the members from the k-th on
+unfoldable pub from : ℕ → List Member → Members
+from k ms = membersOf (drop k ms)
+
+module _ (ms : List Member) (d : Member) (k : ℕ) (n : length ms ≡ 6) (r : k < 6) where
+  at-k : drop k ms ≡ getD ms k d ∷ drop (k + 1) ms
+  at-k = drop-cons ms k d (omega arith) ∙ ap (λ (n : ℕ). getD ms k d ∷ drop n ms) (sym (add-one k))
+
+  module _ (i : ℕ) (s : List ℕ) (p e : ℕ) (t : List ℕ) (x : Step) (t′ : List ℕ) (g : (x, t′) ≡ memberWalk (getD ms k d) i s p e t) where
+    row-step : rowWalk (from k ms) i s p e t ≡ (onward (x, t′) λ q t. rowWalk (from (k + 1) ms) i s q e t)
+    unfolding from
+    row-step = rw (at-k, row-split (getD ms k d) (drop (k + 1) ms) i s p e t, ← g) refl
+
+    pub row-refused : (n q : ℕ) → x ≡ Refused n q → (x, t′) ≡ rowWalk (from k ms) i s p e t
+    row-refused n q h = rw (row-step, h) refl
+
+    pub row-next : (q : ℕ) → x ≡ Next q → rowWalk (from k ms) i s p e t ≡ rowWalk (from (k + 1) ms) i s q e t′
+    row-next q h = rw (row-step, h) refl
+
+  row-less : sizeOf (getD ms k d) + sizes (from (k + 1) ms) ≤ sizes (from k ms)
+  unfolding from
+  row-less = rw at-k (size-split (getD ms k d) (drop (k + 1) ms))
+
+  -- a member is less than its node
+  pub member-smaller : (x : Shape) (t : ℕ) → suc (sizes (inner (layoutOf x))) ≡ t → inner (layoutOf x) ≡ membersOf ms → sizes (from k ms) ≤ sizes (membersOf ms) → sizeOf (getD ms k d) < t
+  member-smaller x t h g f = let b = row-less in let q : sizes (inner (layoutOf x)) ≡ sizes (membersOf ms) = ap sizes g in omega arith
+
+-- what is left is no more than the whole
+pub row-fewer : (ms : List Member) (k : ℕ) → length ms ≡ 6 → k < 6 → sizes (from k ms) ≤ sizes (membersOf ms) → sizes (from (k + 1) ms) ≤ sizes (membersOf ms)
+row-fewer ms k n r h = let b = row-less ms member.Blank k n r in omega arith
+
+drop-all : (ms : List Member) (k : ℕ) → length ms ≤ k → drop k ms ≡ []
+drop-all [] k h = drop-nil k
+drop-all (x ∷ ms) zero h = absurd (omega arith)
+drop-all (x ∷ ms) (suc k) h = drop-all ms k (omega arith)
+
+pub row-over : (ms : List Member) (i : ℕ) (s : List ℕ) (p e k : ℕ) (t : List ℕ) (y : Step) → length ms ≡ 6 → 6 ≤ k → y ≡ closeAt p e → (y, t) ≡ rowWalk (from k ms) i s p e t
+unfolding rowWalk from scan marks
+row-over ms i s p e k t y n h g = rw (drop-all ms k (omega arith)) (both g refl)
+
+pub row-first : (ms : List Member) (i : ℕ) (s : List ℕ) (p e : ℕ) (t : List ℕ) → rowWalk (membersOf ms) i s p e t ≡ rowWalk (from 0 ms) i s p e t
+unfolding from
+row-first ms i s p e t = refl
+
+pub size-first : (ms : List Member) → sizes (from 0 ms) ≤ sizes (membersOf ms)
+unfolding from
+size-first ms = omega arith
+
+pub row-whole : (x : Shape) (ms : List Member) (i : ℕ) (s : List ℕ) (a e k p : ℕ) (t₀ t : List ℕ) (y : Step × List ℕ) → inner (layoutOf x) ≡ membersOf ms
+    → rowWalk (membersOf ms) i s a e t₀ ≡ rowWalk (from k ms) i s p e t → y ≡ rowWalk (from k ms) i s p e t → y ≡ rowWalk (inner (layoutOf x)) i s a e t₀
+row-whole x ms i s a e k p t₀ t y h g f = f ∙ sym g ∙ ap (λ (r : Members). rowWalk r i s a e t₀) (sym h)
+
+pub chain : {A : Type 0} (x y z : A) → x ≡ y → y ≡ z → x ≡ z
+chain x y z e f = e ∙ f
+
+pub over : {A : Type 0} (x y z : A) → x ≡ y → z ≡ y → z ≡ x
+over x y z e f = f ∙ sym e
+
+-- ---- a list's items
+
+module _ (i : Item) (f : Field) (s : List ℕ) (e k p : ℕ) (d : List ℕ) where
+  fewer : (k ≡ 64 → ⊥) → k ≤ 64 → 64 - k ≡ suc (64 - (k + 1))
+  fewer h l = omega (arith, h)
+
+  pub many-16 : k ≡ 64 → p < e → (Uncounted too-many-items p, d) ≡ listWalk i f k s p e d
+  unfolding listWalk tally manyMarks pick
+  many-16 z h = both (rw (z, lt-ltb p e h)) (rw z)
+
+  module _ (x : Step) (d′ : List ℕ) (z : k ≡ 64 → ⊥) (l : k ≤ 64) (h : p < e) (g : (x, d′) ≡ itemWalk i f k s p e d) where
+    pub many-bad : (m q : ℕ) → x ≡ Refused m q → (Uncounted m q, d′) ≡ listWalk i f k s p e d
+    unfolding listWalk itemWalk tally manyMarks pick
+    many-bad m q j = both (rw (fewer z l, lt-ltb p e h, ← answers g, j)) (rw (fewer z l, lt-ltb p e h, ← answers g, j) (tables g))
+
+    pub many-on : (q : ℕ) → x ≡ Next q → listWalk i f k s p e d ≡ listWalk i f (k + 1) s q e d′
+    unfolding listWalk itemWalk tally manyMarks pick
+    many-on q j =
+        let r : k + 1 ≡ suc k = add-one k in
+        both (rw (fewer z l, lt-ltb p e h, ← answers g, j, r)) (rw (fewer z l, lt-ltb p e h, ← answers g, j, ← tables g, r))
+
+  pub many-end : e ≤ p → (Items k, d) ≡ listWalk i f k s p e d
+  unfolding listWalk tally manyMarks pick
+  many-end h = go (64 - k)
+    where
+      go : (n : ℕ) → _≡_ {A = Tally × List ℕ} (Items k, d) (tally (λ q. scan i s q e) n k p e, manyMarks (λ q. scan i s q e) (λ j q x. marks i f j s q e x) n k p e d)
+      go zero = both (rw (le-ltb p e h)) refl
+      go (suc n) = both (rw (le-ltb p e h)) (rw (le-ltb p e h))
+
+-- ---- a record
+
+module _ (r : Members) (s : List ℕ) (p e : ℕ) (d : List ℕ) (h : Seen) (j : h ≡ outermostAt largest-record sequence s p e) where
+  pub record-refused : (n q : ℕ) (y : Step) → h ≡ Bad n q → y ≡ pastOf h → (y, d) ≡ recordWalk r s p e d
+  unfolding recordWalk recordScan recordMarks
+  record-refused n q y b g = both (rw (← j, b) (g ∙ ap pastOf b)) (rw (← j, b))
+
+  pub record-row : (a z : ℕ) (y : Step) (d′ : List ℕ) → h ≡ At a z → (y, d′) ≡ rowWalk r 0 s a z d → (y, d′) ≡ recordWalk r s p e d
+  unfolding recordWalk rowWalk recordScan recordMarks
+  record-row a z y d′ b g = both (rw (← j, b) (answers g)) (rw (← j, b) (tables g))
+
+-- ---- the head of a list
+
+module _ (t : Tag) (o : Bool) (s : List ℕ) (p e : ℕ) (h : Seen) (j : h ≡ headAt (tagByte t) s p e) where
+  pub head-refused : (n q : ℕ) → h ≡ Bad n q → h ≡ listHeadAt (tagByte t) o s p e
+  unfolding listHeadAt
+  head-refused n q b = rw (← j, b)
+
+  module _ (a z : ℕ) (b : h ≡ At a z) (v : Bool) (w : v ≡ o || ltb a z) where
+    pub head-none : v ≡ false → Bad no-item p ≡ listHeadAt (tagByte t) o s p e
+    unfolding listHeadAt pick
+    head-none q = rw (← j, b, ← w, q)
+
+    pub head-some : v ≡ true → At a z ≡ listHeadAt (tagByte t) o s p e
+    unfolding listHeadAt pick
+    head-some q = rw (← j, b, ← w, q)
