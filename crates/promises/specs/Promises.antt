@@ -1,10 +1,10 @@
 -- What the project promises its user, over the definitions that the public contracts cite. Read this page first. Assumes nothing.
 -- A record is a seal or a signature record: `seal` and `signature` are the layouts of document 01, `v` is a record's field values.
-use mathlib.Core.Path.{_≡_, sym, ap, _∙_, subst}
+use mathlib.Core.Path.{_≡_, refl, sym, ap, _∙_, subst}
 use mathlib.Core.Bool.{Bool, false, not, _&&_}
 use mathlib.Core.Option.{some}
 use mathlib.Core.List.{List, [], _++_, append-nil}
-use Prim.Native.Nat.{ℕ, _+_, _≤_}
+use Prim.Native.Nat.{ℕ, _+_, _≤_, _<_}
 use native.Mathlib.Omega.{arith}
 use lib.ListN.{length, getD, take, drop}
 use lib.IntN.{ℤ}
@@ -12,7 +12,7 @@ use lib.Dec.{T, leb}
 use Rattle.terms.specs.declared.Field.{Field}
 use Rattle.terms.specs.declared.Field.the-variants.{SignedPart, SealInformation}
 use Rattle.terms.specs.Numbers.{largest-record, unreal-time}
-use Rattle.terms.specs.Answer.{good, fault, every}
+use Rattle.terms.specs.Answer.{Res, good, fault, every, answered}
 use Rattle.terms.specs.Laws.Answer.{good-inj, and-r}
 use Rattle.terms.specs.Digits.{isByte}
 use Rattle.contents.specs.Integer.{value, contentOf, wellFormed, Fits}
@@ -26,7 +26,7 @@ use Rattle.layouts.specs.Laws.Reading.{clear, clears, spare, prefix-free}
 use Rattle.layouts.specs.Laws.Whole as Whole
 use Rattle.layouts.specs.Laws.Fields.{fields-stand, first-stands}
 use Rattle.records.specs.Record.{seal, signature}
-use Rattle.records.specs.Handing.{readRecord, fieldsOf, fieldsIn, fillFrom, writeFrom, fillAfter, writeAfter, signedBytes, informationOf, signedPartOf, sealOf}
+use Rattle.records.specs.Handing.{readRecord, recordAnswer, fieldsOf, fieldsIn, fillFrom, writeFrom, fillAfter, writeAfter, signedBytes, informationOf, signedPartOf, sealOf}
 use Rattle.records.specs.Laws.Record as Record
 use Rattle.runs.specs.Run.{runOf, whole, stopped, readRun, hereAt, taken, ended, faulty}
 use Rattle.runs.specs.Laws.Run as Runs
@@ -74,6 +74,15 @@ module _ (r : Members) (k : Clear r) where
   -- and a record one value only
   pub one-value : (u v : Values r) → Right r u → Right r v → recordOf r u ≡ recordOf r v → u ≡ v
   one-value u v a b e = good-inj (sym (right-is-accepted u a) ∙ ap (readRecord r) e ∙ right-is-accepted v b)
+
+  -- bytes past the first 65,536 change no answer: a program whose buffer holds so many answers for the whole input
+  pub later-bytes-change-nothing : (w z : List ℕ) → largest-record < length w → recordAnswer r (w ++ z) ≡ recordAnswer r w
+  unfolding recordAnswer
+  later-bytes-change-nothing w z h = ap (answered (λ v. length (w ++ z))) (Whole.accept-more largest-record r w z h (omega arith)) ∙ go (readRecord r w) refl
+    where
+      go : (x : Res (Values r)) → readRecord r w ≡ x → answered (λ v. length (w ++ z)) x ≡ answered (λ v. length w) x
+      go (good v) e = let l : length w ≤ largest-record = Whole.accept-back largest-record r w v e .2 in absurd (omega arith)
+      go (fault n p) e = refl
 
   -- "Each field handed out is that field's own bytes in the caller's record."
   pub fields-stand-there : (w : List ℕ) (v : Values r) → readRecord r w ≡ good v → All (Stands w) (fields r v)

@@ -8,14 +8,21 @@ use lib.Seq.{drop-at, take-at}
 use lib.Dec.{T, leb, leb→le, le→leb}
 use Rattle.terms.specs.Answer.{Res, good, fault, Got, bind}
 use Rattle.terms.specs.Laws.Answer.{clash, good-inj, and-r, by-bind, by-need, bind-eq, need-eq}
-use Rattle.heads.specs.Head.{before, unspelled}
+use Rattle.heads.specs.Head.{Cut, tlv, before, unspelled, outermost}
 use Rattle.heads.specs.Laws.Head.{length-tlv, head-back, outermost-tlv, outermost-back}
+use Rattle.heads.specs.Laws.More.{moreCut, outermost-more}
 use Rattle.layouts.specs.Layout.{Members, node, Values, Oks, encode, encodes}
-use Rattle.layouts.specs.Reading.{finish}
+use Rattle.layouts.specs.Reading.{next, reads, finish}
 use Rattle.layouts.specs.Sheet.{sheet, sheets}
 use Rattle.layouts.specs.Whole.{sequence, recordOf, recordAt, accept, finishSheet, acceptSheet, fit, fillSheet, writeRecord, stored}
 use Rattle.layouts.specs.Laws.Reading.{clear, clears, spare, forwards, backwards, finish-back}
 use Rattle.layouts.specs.Laws.Sheet.{uncounted, filleds, unfilleds, short}
+
+-- where a byte is left, more are left
+some-left : (w z : List ℕ) (p : ℕ) → 1 ≤ length w → finish (w ++ z) p ≡ finish w p
+unfolding finish
+some-left [] z p h = absurd (omega arith)
+some-left (x ∷ w) z p h = refl
 
 module _ (most : ℕ) (r : Members) where
   -- ---- a record at the front of a window
@@ -55,6 +62,29 @@ module _ (most : ℕ) (r : Members) where
   pub accept-there : T (clears r) → most < unspelled → (v : Values r) → Oks r v → length (recordOf r v) ≤ most → accept most r (recordOf r v) ≡ good v
   unfolding accept bind finish
   accept-there k m v ok h = rw (← append-nil (recordOf r v), recordAt-there k m v ok h [] 0)
+
+  -- bytes after the first that no record has room for change nothing
+  pub accept-more : (w z : List ℕ) → most < length w → 4 ≤ length w → accept most r (w ++ z) ≡ accept most r w
+  unfolding accept recordAt bind
+  accept-more w z m h = rw (outermost-more most sequence w z 0 m h) (go (outermost most sequence w 0) refl)
+    where
+      left : (c : Cut) → outermost most sequence w 0 ≡ good c → (p : ℕ) → finish (c .1 ++ z) p ≡ finish (c .1) p
+      left c e p =
+          let o = outermost-back most sequence w 0 c e in
+          let l : length w ≡ length (tlv sequence (c .0)) + length (c .1) = ap length (head-back sequence w 0 c (o .0) .0) ∙ length-append (tlv sequence (c .0)) (c .1) in
+          let n = o .1 in
+          some-left (c .1) z p (omega arith)
+
+      go : (x : Res Cut) → outermost most sequence w 0 ≡ x
+          → (bind {A = Got (Values r)} (bind (moreCut z x) λ c. bind (reads r (c .0) (c .2)) λ v. good (v, c .1, next c)) λ a. bind (finish (a .1) (a .2)) λ u. good (a .0))
+          ≡ (bind {A = Got (Values r)} (bind x λ c. bind (reads r (c .0) (c .2)) λ v. good (v, c .1, next c)) λ a. bind (finish (a .1) (a .2)) λ u. good (a .0))
+      go (good c) e = read (reads r (c .0) (c .2))
+        where
+          read : (y : Res (Values r)) → (bind {A = Got (Values r)} (bind y λ v. good (v, c .1 ++ z, next c)) λ a. bind (finish (a .1) (a .2)) λ u. good (a .0))
+              ≡ (bind {A = Got (Values r)} (bind y λ v. good (v, c .1, next c)) λ a. bind (finish (a .1) (a .2)) λ u. good (a .0))
+          read (good v) = rw (left c e (next c)) refl
+          read (fault n p) = refl
+      go (fault n p) e = refl
 
   -- ---- a sheet
 

@@ -1,0 +1,98 @@
+-- Bytes that stand after the largest record change nothing of its head. Assumes nothing.
+use mathlib.Core.Path.{_≡_, refl, ap, _∙_}
+use Prim.Native.Nat.{ℕ, _+_, _≤_, _<_}
+use native.Mathlib.Omega.{arith}
+use mathlib.Core.Bool.{Bool, true, false}
+use mathlib.Core.Option.{Option, none, some}
+use mathlib.Core.List.{List, [], _∷_, _++_}
+use lib.ListN.{length, take, drop, length-append}
+use lib.Seq.{take-append-le, drop-append-le}
+use lib.Dec.{T, leb, ltb, eqb, leb→le}
+use borrow.Author.Tests.{le-leb}
+use Rattle.terms.specs.Numbers.{bad-length, other-tag, too-large}
+use Rattle.terms.specs.Answer.{Res, good, fault, pick, bind, need, have, every}
+use Rattle.terms.specs.Digits.{isByte, number, leading}
+use Rattle.terms.specs.Laws.Answer.{clash, test, and-l, and-r, by-need, is-true, is-false}
+use Rattle.heads.specs.Head.{Form, forms, octets, Size, unspell, size, opening, Cut, before, cut, outermost}
+use Rattle.heads.specs.Laws.Head.{size-back}
+
+-- what was read, with more after it
+abbrev moreSome : List ℕ → Option Size → Option Size
+moreSome z none = none
+moreSome z (some x) = some (x .0, x .1 ++ z)
+
+abbrev moreSize : List ℕ → Res Size → Res Size
+moreSize z (good x) = good (x .0, x .1 ++ z)
+moreSize z (fault n p) = fault n p
+
+abbrev pub moreCut : List ℕ → Res Cut → Res Cut
+moreCut z (good c) = good (c .0, c .1 ++ z, c .2)
+moreCut z (fault n p) = fault n p
+
+leading-more : (k : ℕ) (w z : List ℕ) → k ≤ length w → leading k (w ++ z) ≡ moreSome z (leading k w)
+unfolding leading pick
+leading-more k w z h =
+    let l : k ≤ length (w ++ z) = rw length-append (omega arith) in
+    rw (le-leb k (length w) h, le-leb k (length (w ++ z)) l, take-append-le k w z h, drop-append-le k w z h) (go (every isByte (take k w)))
+  where
+    go : (b : Bool) → pick b (some (number 256 (take k w), drop k w ++ z)) none ≡ moreSome z (pick b (some (number 256 (take k w), drop k w)) none)
+    go true = refl
+    go false = refl
+
+need-more : (z : List ℕ) (t : Bool) (n p : ℕ) (r : Res Size) → need t n p (moreSize z r) ≡ moreSize z (need t n p r)
+unfolding need
+need-more z true n p r = refl
+need-more z false n p r = refl
+
+pick-more : (z : List ℕ) (t : Bool) (r r′ : Res Size) → pick t (moreSize z r) (moreSize z r′) ≡ moreSize z (pick t r r′)
+unfolding pick
+pick-more z true r r′ = refl
+pick-more z false r r′ = refl
+
+-- where each form's bytes are there
+unspell-more : (fs : List Form) (p a : ℕ) (w z : List ℕ) → T (every (λ f. leb (f .bytes) (length w)) fs) → unspell fs p a (w ++ z) ≡ moreSize z (unspell fs p a w)
+unfolding unspell every bind have
+unspell-more [] p a w z h = refl
+unspell-more (f ∷ fs) p a w z h =
+    let l : f .bytes ≤ length w = leb→le (f .bytes) (length w) (and-l (leb (f .bytes) (length w)) _ h) in
+    let k = unspell-more fs p a w z (and-r (leb (f .bytes) (length w)) _ h) in
+    rw (leading-more (f .bytes) w z l, k, spelled (leading (f .bytes) w)) (pick-more z (eqb a (f .octet)) _ _)
+  where
+    spelled : (o : Option Size) → (bind (have (moreSome z o) bad-length p) λ x. need (leb (f .from) (x .0)) bad-length p (good x))
+        ≡ moreSize z (bind (have o bad-length p) λ x. need (leb (f .from) (x .0)) bad-length p (good x))
+    spelled none = refl
+    spelled (some x) = need-more z (leb (f .from) (x .0)) bad-length p (good x)
+
+-- a head of three forms is at most four bytes long
+opening-more : (t : ℕ) (w z : List ℕ) (b : ℕ) → 4 ≤ length w → opening t (w ++ z) b ≡ moreSize z (opening t w b)
+unfolding opening size every
+opening-more t [] z b h = absurd (omega arith)
+opening-more t (x ∷ []) z b h = absurd (omega arith)
+opening-more t (x ∷ a ∷ w) z b h =
+    let l : 1 ≤ length w = omega arith in
+    let k : 2 ≤ length w = omega arith in
+    rw (unspell-more forms b a w z (rw (le-leb 1 (length w) l, le-leb 2 (length w) k) tt))
+    (ap (need (eqb x t) other-tag b) (pick-more z (ltb a 128) (good (a, w)) (unspell forms b a w)) ∙ need-more z (eqb x t) other-tag b _)
+
+-- what an opening leaves
+opening-length : (t : ℕ) (w : List ℕ) (b : ℕ) (x : Size) → opening t w b ≡ good x → length w ≡ before (x .0) + length (x .1)
+unfolding opening
+opening-length t [] b x e = clash e
+opening-length t (a ∷ w) b x e = by-need _ _ _ _ _ e λ h e₁. let q = size-back b w x e₁ in let l : length w ≡ length (octets (x .0)) + length (x .1) = ap length (q .0) ∙ length-append (octets (x .0)) (x .1) in omega arith
+
+-- of a window with more bytes than the largest record has
+pub outermost-more : (most t : ℕ) (w z : List ℕ) (b : ℕ) → most < length w → 4 ≤ length w → outermost most t (w ++ z) b ≡ moreCut z (outermost most t w b)
+unfolding outermost bind need cut
+outermost-more most t w z b m h = rw (opening-more t w z b h) (go (opening t w b) refl)
+  where
+    held : (x : Size) → length w ≡ before (x .0) + length (x .1) → need (leb (before (x .0) + x .0) most) too-large b (cut b (x .0, x .1 ++ z)) ≡ moreCut z (need (leb (before (x .0) + x .0) most) too-large b (cut b x))
+    held x l = test (leb (before (x .0) + x .0) most)
+        (λ y. let k : before (x .0) + x .0 ≤ most = leb→le _ _ y in
+        let i : x .0 ≤ length (x .1) = omega arith in
+        let j : x .0 ≤ length (x .1 ++ z) = rw length-append (omega arith) in
+        rw (is-true (leb (before (x .0) + x .0) most) y, le-leb (x .0) (length (x .1)) i, le-leb (x .0) (length (x .1 ++ z)) j, take-append-le (x .0) (x .1) z i, drop-append-le (x .0) (x .1) z i) refl)
+        (λ y. rw (is-false (leb (before (x .0) + x .0) most) y) refl)
+
+    go : (r : Res Size) → opening t w b ≡ r → (bind (moreSize z r) λ x. need (leb (before (x .0) + x .0) most) too-large b (cut b x)) ≡ moreCut z (bind r λ x. need (leb (before (x .0) + x .0) most) too-large b (cut b x))
+    go (good x) e = held x (opening-length t w b x e)
+    go (fault n p) e = refl
