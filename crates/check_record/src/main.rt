@@ -55,7 +55,7 @@ fn fill(buf: &mut [u8]) -> Input
 
 // A space and a number.
 fn print_number(n: u64) {
-    io::write_all(STDOUT_FILENO, &[b' ']);
+    io::write_all(STDOUT_FILENO, b" ");
     io::print_decimal(STDOUT_FILENO, n);
 }
 
@@ -63,26 +63,23 @@ fn print_number(n: u64) {
 fn print(outcome: Outcome) {
     match outcome {
         Outcome::Length(n) => {
-            io::write_all(
-                STDOUT_FILENO,
-                &[b'A', b'C', b'C', b'E', b'P', b'T', b'E', b'D'],
-            );
+            io::write_all(STDOUT_FILENO, b"ACCEPTED");
             print_number(n as u64);
         }
         Outcome::Refused(number, place) => {
-            io::write_all(STDOUT_FILENO, &[b'R', b'E', b'F', b'U', b'S', b'E', b'D']);
+            io::write_all(STDOUT_FILENO, b"REFUSED");
             print_number(number as u64);
             print_number(place as u64);
         }
     }
-    io::write_all(STDOUT_FILENO, &[b'\n']);
+    io::write_all(STDOUT_FILENO, b"\n");
 }
 
 // A record of at most 65,535 bytes and one byte more: what follows that changes no answer.
 fn main() {
     let mut input = [0u8; 65536];
     let Input::Bytes(n) = fill(&mut input) else {
-        os::fail(&[b'r', b'e', b'a', b'd']);
+        os::fail(b"read");
         return;
     };
     let r = readers::read_signature(&input[..n]);

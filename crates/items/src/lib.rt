@@ -7,6 +7,21 @@ ghost use Rattle.heads.specs.Scan.{headAt, outermostAt};
 ghost use Rattle.items.specs.Laws.Scan.{refusalOf, roomAt};
 use heads::Seen;
 
+// The encloser ends where an item must begin.
+const ITEM_MISSING: u8 = 1;
+
+// Another tag than the required one.
+const OTHER_TAG: u8 = 2;
+
+// A length that is missing, cut or of no form.
+const BAD_LENGTH: u8 = 3;
+
+// A content that passes its encloser's end.
+const PAST_END: u8 = 4;
+
+// An outermost record that is too large.
+const TOO_LARGE: u8 = 17;
+
 // The tags of the rules.
 pub enum Tag {
     Boolean,
@@ -168,13 +183,13 @@ fn open(s: &[u8], tag: Tag, at: usize, end: usize) -> Opening
     ensures { λ r. ⌜ r ≡ openingAt (tagByte tag) (now (s .entry)) at end ⌝ }
 {
     if end <= at {
-        return Opening::Refused(1, at);
+        return Opening::Refused(ITEM_MISSING, at);
     }
     let Tagged::Known(found) = tag_of(s[at]) else {
-        return Opening::Refused(2, at);
+        return Opening::Refused(OTHER_TAG, at);
     };
     if tag_byte(found) != tag_byte(tag) {
-        return Opening::Refused(2, at);
+        return Opening::Refused(OTHER_TAG, at);
     }
     let Length::Spelled {
         form: _,
@@ -182,7 +197,7 @@ fn open(s: &[u8], tag: Tag, at: usize, end: usize) -> Opening
         content,
     } = length_at(s, at, end)
     else {
-        return Opening::Refused(3, at);
+        return Opening::Refused(BAD_LENGTH, at);
     };
     Opening::Opened(header, content)
 }
@@ -204,7 +219,7 @@ fn room(at: usize, header: usize, content: usize, end: usize) -> Seen
 {
     let start = at + header;
     if end - start < content {
-        return Seen::Refused(4, at);
+        return Seen::Refused(PAST_END, at);
     }
     Seen::Item(start, start + content)
 }
@@ -231,7 +246,7 @@ pub fn outermost(s: &[u8], most: usize, tag: Tag, at: usize, end: usize) -> Seen
         return unopened(o);
     };
     if most < header + content {
-        return Seen::Refused(17, at);
+        return Seen::Refused(TOO_LARGE, at);
     }
     room(at, header, content, stop)
 }

@@ -1,10 +1,11 @@
 -- Reading by positions, what it notes in the table of places. Assumes nothing.
 -- Nobody has to believe this page: `Laws.Marks` proves that an accepted item notes its fields, and code is proved against its steps.
-use Prim.Native.Nat.{ℕ, suc, zero, _+_}
-use mathlib.Core.Bool.{_||_}
-use mathlib.Core.List.{List}
+use Prim.Native.Nat.{ℕ, suc, zero, _+_, _-_}
+use mathlib.Core.Bool.{_&&_, _||_}
+use mathlib.Core.List.{List, [], _∷_}
+use lib.ListN.{length, getD, set}
 use lib.Seq.{slice}
-use lib.Dec.{ltb}
+use lib.Dec.{eqb, ltb}
 use Rattle.terms.specs.declared.Field.{Field}
 use Rattle.terms.specs.Numbers.{too-many-items}
 use Rattle.terms.specs.Answer.{pick}
@@ -18,9 +19,21 @@ use Rattle.contents.specs.Leaves.{boolean}
 use Rattle.layouts.specs.Layout.{Item, leaf, node, list, wrap, Members, end, _▸_, Member, known, one, maybe, flag, choose, tagOf}
 use Rattle.layouts.specs.Whole.{sequence}
 use Rattle.layouts.specs.Scan.{leafAt, beginsAt, scan, scanPart}
-use Rattle.layouts.specs.Places.{noted}
+use Rattle.layouts.specs.Fields.{Entry}
+use Rattle.layouts.specs.Places.{slot}
 use Rattle.layouts.specs.declared.Tally.{Tally}
 use Rattle.layouts.specs.declared.Tally.the-variants.{Items, Refused as Uncounted}
+
+-- a field that starts at `a` and ends before `z` is noted under its name, once, and of a list's fields those of the first item
+unfoldable pub noted : Field → ℕ → ℕ → ℕ → ℕ → List ℕ → List ℕ
+noted f k a z n d =
+    pick (eqb k 0 && (ltb (slot f + 3) (length d) && eqb (getD d (slot f) 0) 0))
+    (set (set (set (set d (slot f) 1) (slot f + 1) a) (slot f + 2) (z - a)) (slot f + 3) n)
+    d
+
+unfoldable pub notes : List Entry → List ℕ → List ℕ
+notes [] d = d
+notes (x ∷ xs) d = notes xs (noted (x .name) (x .index) (x .place) (x .place + length (x .bytes)) (x .items) d)
 
 -- the table after what was seen, read or counted; where it was refused, the table as it was
 abbrev pub afterSeen : Seen → List ℕ → (ℕ → ℕ → List ℕ) → List ℕ

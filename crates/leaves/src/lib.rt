@@ -64,6 +64,9 @@ fn judged(c: Checked, a: usize, z: usize) -> Seen
     }
 }
 
+// Bytes left after the last item.
+const LEFT_OVER: u8 = 5;
+
 // A primitive item: where its content lies, or the refusal of its head or its content.
 pub fn leaf(s: &[u8], f: Form, at: usize, end: usize) -> Seen
     ensures { λ r. ⌜ r ≡ leafAt (leafOf f) (now (s .entry)) at end ⌝ }
@@ -114,7 +117,7 @@ pub fn close(at: usize, end: usize) -> Step
     ensures { λ r. ⌜ r ≡ closeAt at end ⌝ }
 {
     if at < end {
-        return Step::Refused(5, at);
+        return Step::Refused(LEFT_OVER, at);
     }
     Step::Next(end)
 }

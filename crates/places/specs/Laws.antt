@@ -4,17 +4,18 @@ use Prim.Native.Nat.{ℕ, suc, zero, _+_, _-_, _*_, _<_, _≤_}
 use native.Mathlib.Omega.{arith}
 use mathlib.Core.Bool.{Bool, true, false, _&&_, not}
 use mathlib.Core.List.{List, [], _∷_}
-use lib.ListN.{length, getD, set}
+use lib.ListN.{length, getD, set, drop}
 use lib.Dec.{eqb, ltb, ltb→lt}
 use borrow.Author.Tests.{ne-eqb, lt-ltb, le-ltb}
 use Rattle.terms.specs.declared.Field.{Field}
 use Rattle.terms.specs.Names.{code}
 use Rattle.terms.specs.Laws.Names.{nameOf, code-name}
 use Rattle.terms.specs.Answer.{pick}
-use Rattle.layouts.specs.Places.{slot, noted}
+use Rattle.layouts.specs.Places.{names-count, under, slot}
+use Rattle.layouts.specs.Marks.{noted}
 
 -- a name is numbered by its place among the names
-pub slot-name : (f : Field) (n r : ℕ) → f ≡ nameOf n → n < 43 → r ≡ 4 * n → r ≡ slot f
+pub slot-name : (f : Field) (n r : ℕ) → f ≡ nameOf n → n < names-count → r ≡ 4 * n → r ≡ slot f
 unfolding slot
 slot-name f n r h k q = q ∙ ap (λ (z : ℕ). 4 * z) (sym (ap code h ∙ code-name n k))
 
@@ -65,9 +66,10 @@ getD-past (x ∷ d) zero h = absurd (omega arith)
 getD-past (x ∷ d) (suc n) h = getD-past d n (omega arith)
 
 -- what stands under a name, by its slot
-module _ (d : List ℕ) (f : Field) (n x : ℕ) (h : n ≡ slot f) where
-  pub under-there : x ≡ getD d n 0 → not (eqb x 0) ≡ not (eqb (getD d (slot f) 0) 0)
-  under-there e = rw (← h, ← e)
+module _ (d : List ℕ) (f : Field) (n : ℕ) (h : n ≡ slot f) where
+  pub under-there : (x : ℕ) → x ≡ getD d n 0 → not (eqb x 0) ≡ not (eqb (getD d (slot f) 0) 0)
+  under-there x e = rw (← h, ← e)
 
-  pub under-number : (j : ℕ) → x ≡ getD d (n + j) 0 → x ≡ getD d (slot f + j) 0
-  under-number j e = rw (← h) e
+  pub under-numbers : (x y z : ℕ) → x ≡ getD d (n + 1) 0 → y ≡ getD d (n + 2) 0 → z ≡ getD d (n + 3) 0 → x ∷ y ∷ z ∷ [] ≡ drop 1 (under f d)
+  unfolding under
+  under-numbers x y z i j k = rw (i, j, k, h) refl

@@ -3,11 +3,19 @@ use terms::Field;
 ghost use mathlib.Core.Path.{_≡_};
 ghost use Prim.Native.Nat.{_+_, _-_, _<_};
 ghost use mathlib.Core.Bool.{not};
-ghost use lib.ListN.{getD, length as size};
+ghost use mathlib.Core.List.{[], _∷_};
+ghost use lib.ListN.{getD, drop, length as size};
 ghost use lib.Dec.{eqb};
-ghost use Rattle.layouts.specs.Places.{slot, noted};
+ghost use Rattle.layouts.specs.Places.{names-count, table-size, slot, under as numbersUnder};
+ghost use Rattle.layouts.specs.Marks.{noted};
 ghost use Rattle.terms.specs.Laws.Names.{nameOf};
 ghost use Rattle.places.specs.Laws.{free, filled};
+
+// The numbers under a name.
+const NUMBERS_EACH: usize = 4;
+
+// The numbers of a table.
+pub const TABLE_SIZE: usize = 172;
 
 // What stands under a name.
 pub struct Place {
@@ -19,7 +27,7 @@ pub struct Place {
 
 // A name's number.
 fn number_of(f: Field) -> usize
-    ensures { λ r. ⌜ (f ≡ nameOf r) × (r < 43) ⌝ }
+    ensures { λ r. ⌜ (f ≡ nameOf r) × (r < names-count) ⌝ }
 {
     match f {
         Field::SealInformation => 0,
@@ -70,9 +78,9 @@ fn number_of(f: Field) -> usize
 
 // Where a name's four numbers start.
 fn slot_of(f: Field) -> usize
-    ensures { λ r. ⌜ (r ≡ slot f) × (r < 172) ⌝ }
+    ensures { λ r. ⌜ (r ≡ slot f) × (r < table-size) ⌝ }
 {
-    4 * number_of(f)
+    NUMBERS_EACH * number_of(f)
 }
 
 // How far it is from a start to an end; none if the end is before it.
@@ -87,7 +95,7 @@ fn distance(start: usize, end: usize) -> usize
 
 // Whether a name's four numbers, from a number on, are in the table and not taken.
 fn is_free(places: &[usize], n: usize) -> bool
-    requires { ⌜ n < 172 ⌝ }
+    requires { ⌜ n < table-size ⌝ }
     ensures { λ r. ⌜ r ≡ free (now (places .entry)) n ⌝ }
 {
     if places.len() <= n + 3 {
@@ -98,7 +106,7 @@ fn is_free(places: &[usize], n: usize) -> bool
 
 // Writes a name's four numbers.
 fn fill(places: &mut [usize], n: usize, start: usize, length: usize, items: usize)
-    requires { ⌜ n < 172 ⌝ }
+    requires { ⌜ n < table-size ⌝ }
     requires { ⌜ (n + 1 < size (now places)) × (n + 2 < size (now places)) × (n + 3 < size (now places)) ⌝ }
     ensures { λ _. ⌜ now (places .exit) ≡ filled (now (places .entry)) n start length items ⌝ }
 {
@@ -108,7 +116,7 @@ fn fill(places: &mut [usize], n: usize, start: usize, length: usize, items: usiz
     places[n + 3] = items;
 }
 
-// Notes a field under its name, once, and of a list's fields those of the first item alone.
+// Notes a field under its name, once, if the table has room for it; of a list's fields those of the first item alone.
 pub fn note(places: &mut [usize], f: Field, index: usize, start: usize, end: usize, items: usize)
     ensures { λ _. ⌜ now (places .exit) ≡ noted f index start end items (now (places .entry)) ⌝ }
 {
@@ -135,9 +143,7 @@ fn number_at(places: &[usize], n: usize) -> usize
 // What stands under a name.
 pub fn under(places: &[usize], f: Field) -> Place
     ensures { λ r. ⌜ r .there ≡ not (eqb (getD (now (places .entry)) (slot f) 0) 0) ⌝ }
-    ensures { λ r. ⌜ r .start ≡ getD (now (places .entry)) (slot f + 1) 0 ⌝ }
-    ensures { λ r. ⌜ r .length ≡ getD (now (places .entry)) (slot f + 2) 0 ⌝ }
-    ensures { λ r. ⌜ r .items ≡ getD (now (places .entry)) (slot f + 3) 0 ⌝ }
+    ensures { λ r. ⌜ r .start ∷ r .length ∷ r .items ∷ [] ≡ drop 1 (numbersUnder f (now (places .entry))) ⌝ }
 {
     let n = slot_of(f);
     Place {

@@ -21,7 +21,7 @@ use Rattle.layouts.specs.Layout.{node, Members, Values, All, encode}
 use Rattle.layouts.specs.Sheet.{sheets}
 use Rattle.layouts.specs.Whole.{sequence, recordOf, Allowed, acceptSheet}
 use Rattle.layouts.specs.Fields.{Entry, fields, Stands, isField, first}
-use Rattle.layouts.specs.Places.{under, spot, Placed}
+use Rattle.layouts.specs.Places.{under, numbersOf, Placed}
 use Rattle.layouts.specs.Laws.Reading.{clear, clears, spare, prefix-free}
 use Rattle.layouts.specs.Laws.Whole as Whole
 use Rattle.layouts.specs.Laws.Fields.{fields-stand, first-stands}
@@ -97,7 +97,7 @@ module _ (r : Members) (k : Clear r) where
       → take (getD (under f d) 2 0) (drop (getD (under f d) 1 0) w) ≡ x .bytes
   unfolding fieldsIn
   placed-stands-there w v e d h f x i =
-      let u : under f d ≡ spot (some x) = h f ∙ ap (λ (y : List Entry). spot (first (isField f 0) y)) (ap (fieldsOf r) e) ∙ ap spot i in
+      let u : under f d ≡ numbersOf (some x) = h f ∙ ap (λ (y : List Entry). numbersOf (first (isField f 0) y)) (ap (fieldsOf r) e) ∙ ap numbersOf i in
       rw u (handed-out-stands-there w v e (isField f 0) x i)
 
   -- "Record → sheet → record and sheet → record → sheet give the same bytes.": each way succeeds wherever there is room

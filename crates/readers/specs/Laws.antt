@@ -19,11 +19,11 @@ use Rattle.layouts.specs.Whole.{sequence, accept, toldOutcome}
 use Rattle.layouts.specs.declared.Outcome.{Outcome}
 use Rattle.layouts.specs.declared.Outcome.the-variants.{Length, Refused as Unread}
 use Rattle.records.specs.Handing.{recordAnswer, fieldsOf, fieldsIn}
-use Rattle.layouts.specs.Places.{table-size, Placed, notes}
+use Rattle.layouts.specs.Places.{table-size, Placed}
+use Rattle.layouts.specs.Marks.{notes, afterSeen, marksAll, recordMarks}
 use Rattle.layouts.specs.Fields.{fields}
 use Rattle.layouts.specs.Laws.Places.{placed}
 use Rattle.layouts.specs.Laws.Marks.{accept-marks}
-use Rattle.layouts.specs.Marks.{afterSeen, marksAll, recordMarks}
 use Rattle.walks.specs.Walk.{recordWalk}
 use Rattle.walks.specs.Laws.{answers, tables}
 use Rattle.readers.specs.Outcome.{outcomeOf}

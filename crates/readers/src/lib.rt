@@ -1,6 +1,7 @@
 // Reading a seal and a signature record that are the whole input.
 use heads::Step;
 use layouts::Outcome;
+use places::TABLE_SIZE;
 use tables::Shape;
 ghost use mathlib.Core.Path.{_≡_};
 ghost use lib.ListN.{replicate};
@@ -14,7 +15,7 @@ ghost use Rattle.readers.specs.Outcome.{outcomeOf};
 // What reading a record comes to; and, where it was accepted, the table of its places.
 pub struct Reading {
     pub outcome: Outcome,
-    pub places: [usize; 172],
+    pub places: [usize; TABLE_SIZE],
 }
 
 // A step as what a caller is told.
@@ -33,7 +34,7 @@ fn refused(x: Step) -> Reading
 {
     Reading {
         outcome: outcome(x),
-        places: [0usize; 172],
+        places: [0usize; TABLE_SIZE],
     }
 }
 
@@ -42,7 +43,7 @@ fn whole(s: &[u8], x: Shape) -> Reading
     ensures { λ r. ⌜ toldOutcome (r .outcome) ≡ recordAnswer (inner (layoutOf x)) (now (s .entry)) ⌝ }
     ensures { λ r. ⌜ Placed (fieldsIn (inner (layoutOf x)) (now (s .entry))) (r .places) ⌝ }
 {
-    let mut places = [0usize; 172];
+    let mut places = [0usize; TABLE_SIZE];
     let r = walks::record(s, x, 0, s.len(), &mut places);
     let Step::Next(q) = r else {
         return refused(r);

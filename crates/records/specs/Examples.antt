@@ -24,7 +24,7 @@ use Rattle.layouts.specs.Reading.{readBy, begins, finish, many, readOption, rea
 use Rattle.layouts.specs.Sheet.{count, section, bit, sheetOption, sheetList, sheet, readCount, readSection, fillLeaf, times, unbit, fillFlag, fillOption, fillList, fill}
 use Rattle.layouts.specs.Whole.{recordAt, accept, finishSheet, acceptSheet, fit, fillSheet, writeRecord}
 use Rattle.layouts.specs.Fields.{Entry, eachFields, optionFields, eitherFields, flagFields, itemFields, fields, isField, first, bytesIn, isThere}
-use Rattle.layouts.specs.Places.{spot}
+use Rattle.layouts.specs.Places.{numbersOf}
 use Rattle.records.specs.Record.{seal, signature}
 use Rattle.records.specs.Handing.{fieldsIn, recordAnswer, fillAnswer, writeAnswer, fieldAnswer, isListed, matchAnswer, isOneOf, valueAnswer, criticalAnswer, countAnswer}
 use Rattle.records.specs.Samples.{recordS, recordD}
@@ -83,7 +83,7 @@ placesS =
 
 abbrev spots : List (Field × List ℕ) → List (List ℕ)
 spots [] = []
-spots (x ∷ xs) = spot (first (isField (x .0) 0) (fieldsIn signature recordS)) ∷ spots xs
+spots (x ∷ xs) = numbersOf (first (isField (x .0) 0) (fieldsIn signature recordS)) ∷ spots xs
 
 abbrev expectedSpots : List (Field × List ℕ) → List (List ℕ)
 expectedSpots [] = []

@@ -28,7 +28,7 @@ abbrev none-or-more : Bool
 none-or-more = true
 
 -- "INTEGER 4"
-abbrev version : Member
+abbrev pub version : Member
 version = known (integer any) four not-allowed
 
 -- "[0] is explicit: A0 around one whole item."
@@ -38,8 +38,11 @@ tagged-0 i = wrap 0xA0 i
 -- ---- the seal
 
 -- "Header, SEQUENCE: IA5String "ES"; INTEGER 4; vendor, IA5String."
+abbrev pub name : Member
+name = known (ia5String needs-a-byte) es not-es
+
 abbrev pub header : Members
-header = known (ia5String needs-a-byte) es not-es ▸ version ▸ field Vendor (ia5String may-be-empty) ▸ end
+header = name ▸ version ▸ field Vendor (ia5String may-be-empty) ▸ end
 
 -- "Certificate list, SEQUENCE of 1 to 64 items. Kind 1: each a certificate, OCTET STRING."
 abbrev pub certificates : Item
@@ -69,11 +72,17 @@ abbrev pub customData : Field → Field → Field → Field → Item
 customData item id critical value′ =
     list sequence none-or-more most-items item (node sequence (field id identifier ▸ flag critical ▸ field value′ (octetString may-be-empty) ▸ end))
 
+abbrev pub sealCustomData : Item
+sealCustomData = customData SealCustomItem SealCustomId SealCustomCritical SealCustomValue
+
+abbrev pub signedCustomData : Item
+signedCustomData = customData SignedCustomItem SignedCustomId SignedCustomCritical SignedCustomValue
+
 -- "Seal information, SEQUENCE: header; seal id, IA5String; property; picture; custom data, optional, untagged."
 abbrev pub sealInformation : Members
 sealInformation =
     part Header header ▸ field SealId (ia5String needs-a-byte) ▸ part Property property ▸ part Picture picture
-    ▸ maybe SealCustomData (customData SealCustomItem SealCustomId SealCustomCritical SealCustomValue) ▸ end
+    ▸ maybe SealCustomData sealCustomData ▸ end
 
 -- "Seal, SEQUENCE: seal information; maker certificate, OCTET STRING; algorithm, OBJECT IDENTIFIER; signed value, BIT STRING."
 abbrev pub seal : Members
@@ -86,7 +95,7 @@ seal = part SealInformation sealInformation ▸ field MakerCertificate (octetStr
 abbrev pub signedPart : Members
 signedPart =
     version ▸ part Seal seal ▸ field SigningTime generalizedTime ▸ field OriginalDigest bitString ▸ field PropertyText (ia5String needs-a-byte)
-    ▸ maybe SignedCustomData (tagged-0 (customData SignedCustomItem SignedCustomId SignedCustomCritical SignedCustomValue)) ▸ end
+    ▸ maybe SignedCustomData (tagged-0 signedCustomData) ▸ end
 
 -- "Signature record, SEQUENCE: signed part; signer certificate, OCTET STRING; algorithm; signature, BIT STRING; stamp, [0] BIT STRING, optional."
 abbrev pub signature : Members

@@ -1,14 +1,13 @@
 -- What the names of the code's table stand for: forms, shapes, kinds and members as the layouts of `records`. Assumes nothing.
 use mathlib.Core.List.{List, [], _∷_}
-use Rattle.terms.specs.Numbers.{not-allowed, not-es, most-items}
-use Rattle.terms.specs.declared.Field.the-variants as field
+use Rattle.terms.specs.declared.Field.{Field}
+use Rattle.terms.specs.Numbers.{most-items}
 use Rattle.contents.specs.Content.{Leaf}
 use Rattle.contents.specs.Integer.{value, any, is, isKind, isMillimetres}
-use Rattle.contents.specs.Rules.{es, four}
 use Rattle.contents.specs.Leaves as leaves
 use Rattle.contents.specs.Leaves.{may-be-empty, needs-a-byte}
 use Rattle.items.specs.Scan.{tagByte}
-use Rattle.layouts.specs.Layout.{Item, leaf, node, list, wrap, Members, end, _▸_, Member as Part, known, one, maybe, flag, choose}
+use Rattle.layouts.specs.Layout.{Item, leaf, node, list, wrap, Members, end, _▸_, Member as Part, one, maybe, flag, choose}
 use Rattle.layouts.specs.Whole.{sequence}
 use Rattle.records.specs.Record as rules
 use Rattle.tables.specs.declared.Form.{Form}
@@ -38,8 +37,8 @@ leafOf form.Millimetres = leaves.integer isMillimetres
 leafOf form.Critical = leaves.boolean
 
 abbrev pub knownOf : Word → Part
-knownOf word.Es = known (leaves.ia5String needs-a-byte) es not-es
-knownOf word.Four = known (leaves.integer any) four not-allowed
+knownOf word.Es = rules.name
+knownOf word.Four = rules.version
 
 -- an item of a list
 abbrev itemIn : Item → Item
@@ -47,13 +46,6 @@ itemIn (leaf l) = leaf l
 itemIn (node t r) = node t r
 itemIn (list t e n f i) = i
 itemIn (wrap t i) = wrap t i
-
--- custom data under the names of each place
-abbrev sealCustomData : Item
-sealCustomData = rules.customData field.SealCustomItem field.SealCustomId field.SealCustomCritical field.SealCustomValue
-
-abbrev signedCustomData : Item
-signedCustomData = rules.customData field.SignedCustomItem field.SignedCustomId field.SignedCustomCritical field.SignedCustomValue
 
 abbrev pub layoutOf : Shape → Item
 layoutOf shape.Signature = node sequence rules.signature
@@ -67,11 +59,11 @@ layoutOf shape.Certificate = itemIn rules.certificates
 layoutOf shape.Digests = rules.digests
 layoutOf shape.Digest = itemIn rules.digests
 layoutOf shape.Picture = node sequence rules.picture
-layoutOf shape.SealCustomData = sealCustomData
-layoutOf shape.SealCustomItem = itemIn sealCustomData
-layoutOf shape.TaggedCustomData = rules.tagged-0 signedCustomData
-layoutOf shape.SignedCustomData = signedCustomData
-layoutOf shape.SignedCustomItem = itemIn signedCustomData
+layoutOf shape.SealCustomData = rules.sealCustomData
+layoutOf shape.SealCustomItem = itemIn rules.sealCustomData
+layoutOf shape.TaggedCustomData = rules.tagged-0 rules.signedCustomData
+layoutOf shape.SignedCustomData = rules.signedCustomData
+layoutOf shape.SignedCustomItem = itemIn rules.signedCustomData
 layoutOf shape.TaggedStamp = rules.tagged-0 (leaf leaves.bitString)
 layoutOf shape.Stamp = leaf leaves.bitString
 
@@ -89,6 +81,10 @@ itemOf x (kind.Node t) = node (tagByte t) (inner (layoutOf x))
 itemOf x (kind.List t e f y) = list (tagByte t) e most-items f (layoutOf y)
 itemOf x (kind.Wrap t y) = wrap (tagByte t) (layoutOf y)
 
+-- the list kind, and the list that it decides on
+abbrev pub kindsOf : Field → Field → Shape → Shape → Part
+kindsOf f g x y = choose f (leafOf form.ListKind) (λ c. is 1 (value c)) g (layoutOf x) (layoutOf y)
+
 -- a row, member by member
 abbrev pub membersOf : List Member → Members
 membersOf [] = end
@@ -98,4 +94,4 @@ membersOf (member.Leaf f l ∷ ms) = one f (leaf (leafOf l)) ▸ membersOf ms
 membersOf (member.Part f x ∷ ms) = one f (layoutOf x) ▸ membersOf ms
 membersOf (member.Maybe f x ∷ ms) = maybe f (layoutOf x) ▸ membersOf ms
 membersOf (member.Flag f ∷ ms) = flag f ▸ membersOf ms
-membersOf (member.Kinds f g x y ∷ ms) = choose f (leafOf form.ListKind) (λ c. is 1 (value c)) g (layoutOf x) (layoutOf y) ▸ membersOf ms
+membersOf (member.Kinds f g x y ∷ ms) = kindsOf f g x y ▸ membersOf ms

@@ -43,9 +43,8 @@ use Rattle.tables.specs.declared.Member.the-variants as member
 use Rattle.tables.specs.Table.{leafOf, knownOf, inner, layoutOf, itemOf, membersOf}
 use Rattle.layouts.specs.declared.Tally.{Tally}
 use Rattle.layouts.specs.declared.Tally.the-variants.{Items, Refused as Uncounted}
-use Rattle.layouts.specs.Places.{noted}
-use Rattle.layouts.specs.Marks.{afterSeen, afterStep, afterTally, thenTally, tally, manyMarks, leafMarks, marks, marksAll, recordMarks}
-use Rattle.walks.specs.Walk.{leafWalk, listHeadAt, itemWalk, rowWalk, memberWalk, listWalk, recordWalk, counted}
+use Rattle.layouts.specs.Marks.{noted, afterSeen, afterStep, afterTally, thenTally, tally, manyMarks, leafMarks, marks, marksAll, recordMarks}
+use Rattle.walks.specs.Walk.{listHeadAt, itemWalk, rowWalk, memberWalk, listWalk, recordWalk}
 
 -- ---- a number that falls from an item to what stands in it
 
@@ -127,6 +126,11 @@ head-inside t s p e a z h = go (head t (slice p e s) p) refl h
 pub rule-inside : (t : ℕ) (rule : List ℕ → Check) (s : List ℕ) (p e a z : ℕ) (h : Seen) → h ≡ ruleAt t rule s p e → h ≡ At a z → a ≤ length s
 rule-inside t rule s p e a z h j b = head-inside t s p e a z (rule-taken t rule s p e a z (sym j ∙ b) .0)
 
+-- a list whose items are counted ends where it ends
+abbrev counted : ℕ → Tally → Step
+counted e (Items n) = Next e
+counted e (Uncounted n p) = Refused n p
+
 -- a list's items, counted, are its items, read
 tally-many : (f : ℕ → Step) (n j p e : ℕ) → scanMany f n p e ≡ counted e (tally f n j p e)
 unfolding scanMany tally pick
@@ -187,21 +191,21 @@ tables {A} h = ap (λ (z : A × List ℕ). z .1) h
 
 module _ (f : Field) (n : ℕ) (s : List ℕ) (p e : ℕ) (d : List ℕ) where
   module _ (l : Form) (h : Seen) (j : h ≡ leafAt (leafOf l) s p e) where
-    pub leaf-refused : (m q : ℕ) (y : Step) → h ≡ Bad m q → y ≡ pastOf h → (y, d) ≡ leafWalk l f n s p e d
-    unfolding leafWalk scan leafMarks
+    pub leaf-refused : (m q : ℕ) (y : Step) → h ≡ Bad m q → y ≡ pastOf h → (y, d) ≡ itemWalk (leaf (leafOf l)) f n s p e d
+    unfolding itemWalk scan marks leafMarks
     leaf-refused m q y b g = both (rw (← j) (g ∙ passed h)) (rw (← j, b))
 
-    pub leaf-taken : (a z i : ℕ) (d′ : List ℕ) → h ≡ At a z → i ≡ leafOf l .hidden → d′ ≡ noted f n (a + i) z 0 d → (Next z, d′) ≡ leafWalk l f n s p e d
-    unfolding leafWalk scan leafMarks
+    pub leaf-taken : (a z i : ℕ) (d′ : List ℕ) → h ≡ At a z → i ≡ leafOf l .hidden → d′ ≡ noted f n (a + i) z 0 d → (Next z, d′) ≡ itemWalk (leaf (leafOf l)) f n s p e d
+    unfolding itemWalk scan marks leafMarks
     leaf-taken a z i d′ b o g = both (rw (← j, b)) (rw (← j, b, ← o) g)
 
   module _ (x : Shape) (k : Kind) (l : layoutOf x ≡ itemOf x k) where
     abbrev Reads : Step → List ℕ → Type 0
     Reads y d′ = (y, d′) ≡ itemWalk (layoutOf x) f n s p e d
 
-    pub item-leaf : (c : Form) (y : Step) (d′ : List ℕ) → k ≡ kind.Leaf c → (y, d′) ≡ leafWalk c f n s p e d → Reads y d′
-    unfolding itemWalk leafWalk marks
-    item-leaf c y d′ i g = both (rw (l, i) (answers g)) (rw (l, i) (tables g))
+    pub item-leaf : (c : Form) (y : Step) (d′ : List ℕ) → k ≡ kind.Leaf c → (y, d′) ≡ itemWalk (leaf (leafOf c)) f n s p e d → Reads y d′
+    unfolding itemWalk
+    item-leaf c y d′ i g = rw (l, i) g
 
     module _ (t : Tag) (h : Seen) (j : h ≡ headAt (tagByte t) s p e) where
       module _ (i : k ≡ kind.Node t) where
@@ -291,7 +295,7 @@ module _ (m : Member) (n : ℕ) (s : List ℕ) (p e : ℕ) (d : List ℕ) where
   unfolding memberWalk
   member-known w h y i j g = rw i (both (g ∙ passed h ∙ ap (λ (x : Seen). thenSeen x λ a z. Next z) j ∙ sym (known-word w s p e)) refl)
 
-  pub member-leaf : (f : Field) (l : Form) (y : Step) (d′ : List ℕ) → m ≡ member.Leaf f l → (y, d′) ≡ leafWalk l f n s p e d → ReadsPart y d′
+  pub member-leaf : (f : Field) (l : Form) (y : Step) (d′ : List ℕ) → m ≡ member.Leaf f l → (y, d′) ≡ itemWalk (leaf (leafOf l)) f n s p e d → ReadsPart y d′
   unfolding memberWalk
   member-leaf f l y d′ i g = rw i g
 
@@ -309,8 +313,8 @@ module _ (m : Member) (n : ℕ) (s : List ℕ) (p e : ℕ) (d : List ℕ) where
     maybe-no o = rw i (both (rw (← j, ← h, o)) (rw (← j, ← h, o)))
 
   module _ (f : Field) (b : Bool) (i : m ≡ member.Flag f) (h : b ≡ beginsAt (tagByte tag.Boolean) s p e) where
-    pub flag-yes : (y : Step) (d′ : List ℕ) → b ≡ true → (y, d′) ≡ leafWalk form.Critical f n s p e d → ReadsPart y d′
-    unfolding memberWalk leafWalk scan marks pick
+    pub flag-yes : (y : Step) (d′ : List ℕ) → b ≡ true → (y, d′) ≡ itemWalk (leaf (leafOf form.Critical)) f n s p e d → ReadsPart y d′
+    unfolding memberWalk itemWalk scan marks pick
     flag-yes y d′ o g = rw i (both (rw (← h, o) (answers g)) (rw (← h, o) (tables g)))
 
     pub flag-no : b ≡ false → ReadsPart (Next p) d
@@ -361,7 +365,7 @@ abbrev onward : Step × List ℕ → (ℕ → List ℕ → Step × List ℕ) →
 onward w k = (thenStep (w .0) λ q. k q (w .1) .0, afterStep (w .0) (w .1) λ q. k q (w .1) .1)
 
 row-split : (m : Member) (ms : List Member) (n : ℕ) (s : List ℕ) (p e : ℕ) (d : List ℕ) → rowWalk (membersOf (m ∷ ms)) n s p e d ≡ (onward (memberWalk m n s p e d) λ q t. rowWalk (membersOf ms) n s q e t)
-unfolding rowWalk memberWalk itemWalk leafWalk scan marks
+unfolding rowWalk memberWalk itemWalk scan marks
 row-split member.Blank ms n s p e d = refl
 row-split (member.Known word.Es) ms n s p e d = refl
 row-split (member.Known word.Four) ms n s p e d = refl

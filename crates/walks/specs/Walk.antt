@@ -1,4 +1,5 @@
 -- What the functions over the table answer, and the table of places after each. Assumes nothing.
+-- Nobody has to believe this page: it names what `Scan` and `Marks` say of the members of a row.
 use Prim.Native.Nat.{ℕ, _-_}
 use mathlib.Core.Bool.{Bool, _||_}
 use mathlib.Core.List.{List}
@@ -10,21 +11,14 @@ use Rattle.heads.specs.Scan.{headAt}
 use Rattle.heads.specs.declared.Seen.{Seen}
 use Rattle.heads.specs.declared.Seen.the-variants.{Item as At, Refused as Bad}
 use Rattle.heads.specs.declared.Step.{Step}
-use Rattle.heads.specs.declared.Step.the-variants.{Next, Refused}
-use Rattle.contents.specs.Integer.{value, is}
-use Rattle.layouts.specs.Layout.{Item, leaf, Members, Member as Part, maybe, flag, choose}
+use Rattle.heads.specs.declared.Step.the-variants.{Next}
+use Rattle.layouts.specs.Layout.{Item, leaf, Members, Member as Part, maybe, flag}
 use Rattle.layouts.specs.Scan.{thenJudge, scan, scans, scanPart, recordScan}
-use Rattle.layouts.specs.Marks.{tally, manyMarks, leafMarks, marks, marksAll, marksPart, recordMarks}
+use Rattle.layouts.specs.Marks.{tally, manyMarks, marks, marksAll, marksPart, recordMarks}
 use Rattle.layouts.specs.declared.Tally.{Tally}
-use Rattle.layouts.specs.declared.Tally.the-variants.{Items, Refused as Uncounted}
-use Rattle.tables.specs.declared.Form.{Form}
-use Rattle.tables.specs.declared.Form.the-variants as form
 use Rattle.tables.specs.declared.Member.{Member}
 use Rattle.tables.specs.declared.Member.the-variants as member
-use Rattle.tables.specs.Table.{leafOf, knownOf, layoutOf}
-
-unfoldable pub leafWalk : Form → Field → ℕ → List ℕ → ℕ → ℕ → List ℕ → Step × List ℕ
-leafWalk l f k s p e d = (scan (leaf (leafOf l)) s p e, leafMarks (leafOf l) f k s p e d)
+use Rattle.tables.specs.Table.{leafOf, knownOf, layoutOf, kindsOf}
 
 -- the head of a list: 15 where it has no item and needs one
 unfoldable pub listHeadAt : ℕ → Bool → List ℕ → ℕ → ℕ → Seen
@@ -40,13 +34,11 @@ rowWalk r k s p e d = (scans r s p e, marksAll r k s p e d)
 unfoldable pub memberWalk : Member → ℕ → List ℕ → ℕ → ℕ → List ℕ → Step × List ℕ
 memberWalk member.Blank k s p e d = (Next p, d)
 memberWalk (member.Known w) k s p e d = (scanPart (knownOf w) s p e, d)
-memberWalk (member.Leaf f l) k s p e d = leafWalk l f k s p e d
+memberWalk (member.Leaf f l) k s p e d = itemWalk (leaf (leafOf l)) f k s p e d
 memberWalk (member.Part f x) k s p e d = itemWalk (layoutOf x) f k s p e d
 memberWalk (member.Maybe f x) k s p e d = (scanPart (maybe f (layoutOf x)) s p e, marksPart (maybe f (layoutOf x)) k s p e d)
 memberWalk (member.Flag f) k s p e d = (scanPart (flag f) s p e, marksPart (flag f) k s p e d)
-memberWalk (member.Kinds f g x y) k s p e d =
-    let m : Part = choose f (leafOf form.ListKind) (λ c. is 1 (value c)) g (layoutOf x) (layoutOf y) in
-    (scanPart m s p e, marksPart m k s p e d)
+memberWalk (member.Kinds f g x y) k s p e d = (scanPart (kindsOf f g x y) s p e, marksPart (kindsOf f g x y) k s p e d)
 
 -- the items of a list, of which so many stand before here
 unfoldable pub listWalk : Item → Field → ℕ → List ℕ → ℕ → ℕ → List ℕ → Tally × List ℕ
@@ -57,8 +49,3 @@ listWalk i f k s p e d = (
 
 unfoldable pub recordWalk : Members → List ℕ → ℕ → ℕ → List ℕ → Step × List ℕ
 recordWalk r s p e d = (recordScan largest-record r s p e, recordMarks largest-record r s p e d)
-
--- a list whose items are counted ends where it ends
-abbrev pub counted : ℕ → Tally → Step
-counted e (Items n) = Next e
-counted e (Uncounted n p) = Refused n p

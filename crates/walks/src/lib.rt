@@ -10,14 +10,24 @@ use tables::Shape;
 use terms::Field;
 ghost use mathlib.Core.Path.{_≡_};
 ghost use Rattle.items.specs.Scan.{tagByte};
-ghost use Rattle.tables.specs.Table.{inner, layoutOf};
-ghost use Rattle.walks.specs.Walk.{leafWalk, listHeadAt, itemWalk, rowWalk, memberWalk, listWalk, recordWalk};
+ghost use Rattle.layouts.specs.Layout.{leaf as leafItem};
+ghost use Rattle.tables.specs.Table.{leafOf, inner, layoutOf};
+ghost use Rattle.walks.specs.Walk.{listHeadAt, itemWalk, rowWalk, memberWalk, listWalk, recordWalk};
 
 // The most bytes of a record, header included.
 const LARGEST_RECORD: usize = 65535;
 
 // The most items of a list.
 const MOST_ITEMS: usize = 64;
+
+// The members of a row, filled up.
+const MEMBERS: usize = 6;
+
+// A certificate list with no item.
+const NO_ITEM: u8 = 15;
+
+// A 65th item in a list.
+const TOO_MANY_ITEMS: u8 = 16;
 
 // A primitive item under its name, and its index in a list: where what follows it starts.
 fn leaf(
@@ -29,7 +39,7 @@ fn leaf(
     end: usize,
     places: &mut [usize],
 ) -> Step
-    ensures { λ r. ⌜ (r, now (places .exit)) ≡ leafWalk form name index (now (s .entry)) at end (now (places .entry)) ⌝ }
+    ensures { λ r. ⌜ (r, now (places .exit)) ≡ itemWalk (leafItem (leafOf form)) name index (now (s .entry)) at end (now (places .entry)) ⌝ }
 {
     let h = leaves::leaf(s, form, at, end);
     let Seen::Item(a, z) = h else {
@@ -48,7 +58,7 @@ fn list_head(s: &[u8], t: Tag, empty: bool, at: usize, end: usize) -> Seen
         return h;
     };
     if !texts::enough(a, z, empty) {
-        return Seen::Refused(15, at);
+        return Seen::Refused(NO_ITEM, at);
     }
     Seen::Item(a, z)
 }
@@ -111,7 +121,7 @@ fn row(s: &[u8], x: Shape, index: usize, at: usize, end: usize, places: &mut [us
     let members = tables::members_of(x);
     let mut p = at;
     let mut k: usize = 0;
-    while k < 6 {
+    while k < MEMBERS {
         let r = member(s, members[k], index, p, end, places);
         let Step::Next(q) = r else {
             return r;
@@ -165,7 +175,7 @@ fn list(s: &[u8], x: Shape, name: Field, at: usize, end: usize, places: &mut [us
     let mut k: usize = 0;
     while p < end {
         if k == MOST_ITEMS {
-            return Tally::Refused(16, p);
+            return Tally::Refused(TOO_MANY_ITEMS, p);
         }
         let r = item(s, x, name, k, p, end, places);
         match r {
@@ -177,7 +187,8 @@ fn list(s: &[u8], x: Shape, name: Field, at: usize, end: usize, places: &mut [us
     Tally::Items(k)
 }
 
-// A record at a position, whatever follows it: where it ends, or the first refusal in it.
+// A record at a position, whatever follows it: where it ends, or the first refusal in it. The fields that it passes are noted in a
+// table that was zeros; after a refusal the table holds those that were passed, and the caller throws it away.
 pub fn record(s: &[u8], x: Shape, at: usize, end: usize, places: &mut [usize]) -> Step
     ensures { λ r. ⌜ (r, now (places .exit)) ≡ recordWalk (inner (layoutOf x)) (now (s .entry)) at end (now (places .entry)) ⌝ }
 {

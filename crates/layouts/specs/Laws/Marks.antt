@@ -23,8 +23,7 @@ use Rattle.layouts.specs.Fields.{Entry, entry, eachFields, optionFields,
 use Rattle.layouts.specs.Whole.{sequence, recordAt, accept}
 use Rattle.layouts.specs.Reading.{next, readLeaf, begins, many, readOption, readFlag, readEither, read, reads, readPart}
 use Rattle.layouts.specs.Scan.{scan}
-use Rattle.layouts.specs.Places.{noted, notes}
-use Rattle.layouts.specs.Marks.{afterStep, thenTally, tally, manyMarks, leafMarks, marks, marksAll, marksPart}
+use Rattle.layouts.specs.Marks.{noted, notes, afterStep, thenTally, tally, manyMarks, leafMarks, marks, marksAll, marksPart}
 use Rattle.layouts.specs.declared.Tally.the-variants.{Items, Refused as Uncounted}
 use Rattle.layouts.specs.Laws.Reading.{leaf-back, many-back, finish-back, yes-back, backward, backwards, backwardPart}
 use Rattle.layouts.specs.Laws.Scan.{by-window, Onward, step, head-parts, leaf-parts, leaf-agree, begins-agree, enough-agree, item-on, part-on, scan-read, part-read}

@@ -15,7 +15,8 @@ use Rattle.terms.specs.Names.{code, sameName}
 use Rattle.terms.specs.Laws.Names.{code-below, nameOf, code-name}
 use Rattle.terms.specs.Laws.Answer.{test, and-l, and-r, both, pick-yes, pick-no}
 use Rattle.layouts.specs.Fields.{Entry, isField, first}
-use Rattle.layouts.specs.Places.{table-size, slot, under, spot, Placed, noted, notes}
+use Rattle.layouts.specs.Places.{table-size, slot, under, numbersOf, Placed}
+use Rattle.layouts.specs.Marks.{noted, notes}
 
 -- ---- a run of stores
 
@@ -69,7 +70,7 @@ free-is x d t =
     (eqb→eq (x .index) 0 (and-l (eqb (x .index) 0) _ t), ltb→lt (slot (x .name) + 3) (length d) (and-l (ltb (slot (x .name) + 3) (length d)) _ t′), eqb→eq (getD d (slot (x .name)) 0) 0 (and-r (ltb (slot (x .name) + 3) (length d)) _ t′))
 
 -- a field that is noted is stored in four numbers
-noted-free : (x : Entry) (d : List ℕ) → T (free x d) → noting x d ≡ sets d (slot (x .name)) (spot (some x))
+noted-free : (x : Entry) (d : List ℕ) → T (free x d) → noting x d ≡ sets d (slot (x .name)) (numbersOf (some x))
 unfolding noted
 noted-free x d t =
     let p : slot (x .name) + 1 ≡ suc (slot (x .name)) = omega arith in
@@ -87,7 +88,7 @@ noted-held x d t = pick-no _ _ _ t
 length-noted : (x : Entry) (d : List ℕ) → length (noting x d) ≡ length d
 length-noted x d =
     test (free x d)
-    (λ t. rw (noted-free x d t) (length-sets d (slot (x .name)) (spot (some x))))
+    (λ t. rw (noted-free x d t) (length-sets d (slot (x .name)) (numbersOf (some x))))
     (λ t. rw (noted-held x d t))
 
 module _ (f : Field) where
@@ -97,8 +98,8 @@ module _ (f : Field) where
   noted-past x d h =
       test (free x d)
       (λ t. rw (noted-free x d t)
-      (under-is f (sets d (slot (x .name)) (spot (some x))) (under f d) refl λ j b.
-      sets-other (spot (some x)) d (slot (x .name)) (slot f + j) (λ i c e. h (omega arith) t) ∙ sym (under-at f d j b)))
+      (under-is f (sets d (slot (x .name)) (numbersOf (some x))) (under f d) refl λ j b.
+      sets-other (numbersOf (some x)) d (slot (x .name)) (slot f + j) (λ i c e. h (omega arith) t) ∙ sym (under-at f d j b)))
       (λ t. rw (noted-held x d t))
 
   -- names of one number have one place
@@ -107,11 +108,11 @@ module _ (f : Field) where
   slot-alike g e = ap (λ (k : ℕ). 4 * k) (sym e)
 
   -- a field that is noted stands under its name
-  noted-there : (x : Entry) (d : List ℕ) → code f ≡ code (x .name) → T (free x d) → under f (noting x d) ≡ spot (some x)
+  noted-there : (x : Entry) (d : List ℕ) → code f ≡ code (x .name) → T (free x d) → under f (noting x d) ≡ numbersOf (some x)
   noted-there x d e t =
       let s = slot-alike (x .name) e in
       let b = free-is x d t in
-      rw (noted-free x d t, s) (under-is f (sets d (slot f) (spot (some x))) (spot (some x)) refl λ j c. sets-here (spot (some x)) d (slot f) j (omega arith) c)
+      rw (noted-free x d t, s) (under-is f (sets d (slot f) (numbersOf (some x))) (numbersOf (some x)) refl λ j c. sets-here (numbersOf (some x)) d (slot f) j (omega arith) c)
 
   -- a field that is asked for has the name's number and the index 0
   field-is : (x : Entry) → T (isField f 0 x) → (code f ≡ code (x .name)) × (x .index ≡ 0)
@@ -135,7 +136,7 @@ module _ (f : Field) where
       kept xs (noting x d) (first-is f (noting x d) (under f d) u ∙ h) ∙ u
 
   -- under a name that is empty the first field of that name comes to stand
-  found : (xs : List Entry) (d : List ℕ) → length d ≡ table-size → under f d ≡ spot none → under f (notes xs d) ≡ spot (first (isField f 0) xs)
+  found : (xs : List Entry) (d : List ℕ) → length d ≡ table-size → under f d ≡ numbersOf none → under f (notes xs d) ≡ numbersOf (first (isField f 0) xs)
   unfolding notes first
   found [] d l h = h
   found (x ∷ xs) d l h =
@@ -144,9 +145,9 @@ module _ (f : Field) where
       let s = slot-alike (x .name) (q .0) in
       let c = code-below f in
       let b : slot (x .name) + 3 < length d = rw s (unfold slot in omega arith) in
-      let w : T (free x d) = both (eqb (x .index) 0) _ (rw (q .1) tt) (both (ltb (slot (x .name) + 3) (length d)) _ (lt→ltb _ _ b) (rw (s, first-is f d (spot none) h) tt)) in
+      let w : T (free x d) = both (eqb (x .index) 0) _ (rw (q .1) tt) (both (ltb (slot (x .name) + 3) (length d)) _ (lt→ltb _ _ b) (rw (s, first-is f d (numbersOf none) h) tt)) in
       let u = noted-there x d (q .0) w in
-      rw (pick-yes _ _ _ t) (kept xs (noting x d) (first-is f (noting x d) (spot (some x)) u) ∙ u))
+      rw (pick-yes _ _ _ t) (kept xs (noting x d) (first-is f (noting x d) (numbersOf (some x)) u) ∙ u))
       (λ t. let u = noted-past x d λ e w. T-not (isField f 0 x) t (is-field x e (free-is x d w .0)) in
       rw (pick-no _ _ _ t) (found xs (noting x d) (length-noted x d ∙ l) (u ∙ h)))
 
@@ -156,7 +157,7 @@ unfolding slot
 placed xs f =
     let c = code-below f in
     found f xs (replicate table-size 0) (length-replicate {A = ℕ} table-size 0)
-    (under-is f (replicate table-size 0) (spot none) refl λ j b. getD-replicate table-size (slot f + j) 0 0 (omega arith) ∙ sym (getD-replicate 4 j 0 0 b))
+    (under-is f (replicate table-size 0) (numbersOf none) refl λ j b. getD-replicate table-size (slot f + j) 0 0 (omega arith) ∙ sym (getD-replicate 4 j 0 0 b))
 
 -- and there is no other
 pub placed-once : (xs : List Entry) (d d′ : List ℕ) → length d ≡ table-size → length d′ ≡ table-size → Placed xs d → Placed xs d′ → d ≡ d′

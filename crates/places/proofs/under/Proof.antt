@@ -1,6 +1,6 @@
 -- `places::under`: the four numbers from the name's slot on.
 use borrow.Author.Needs.{needs}
-use Rattle.places.specs.Laws.{under-there, under-number}
+use Rattle.places.specs.Laws.{under-there, under-numbers}
 use Rattle.places.proofs.under.Statement.{statement}
 use Rattle.places.proofs.under.Tie as tie
 
@@ -29,7 +29,7 @@ number-at-requires-4 : tie.Need-number-at-requires-4
 number-at-requires-4 c κs = search needs
 
 returns : tie.Need-returns
-returns c = (search (needs, under-there), (search (needs, under-number), (search (needs, under-number), search (needs, under-number))))
+returns c = (search (needs, under-there), search (needs, under-numbers))
 
 pub under-spec : {M : Type 1} → statement M
 under-spec =
