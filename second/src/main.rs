@@ -1,7 +1,7 @@
 //! The program: makes the cases, and answers them.
 
 use second::answer::answer;
-use second::case::{unpack, Case};
+use second::case::{unpack, Case, Kind};
 use second::generate::edges::edges;
 use second::generate::random::Random;
 use second::generate::tree::signature_input;
@@ -15,7 +15,7 @@ use std::process::ExitCode;
 /// The number of records that openssl was shown.
 const RECORDS: usize = 500;
 
-const USAGE: &str = "usage: second make DIRECTORY | second answer CASES | second records DIRECTORY";
+const USAGE: &str = "usage: second make DIRECTORY | second answer CASES | second records DIRECTORY\n       second signatures CASES EACH DIRECTORY";
 
 /// Runs the command that the arguments name.
 fn main() -> ExitCode {
@@ -24,6 +24,9 @@ fn main() -> ExitCode {
         ["make", directory] => make(Path::new(directory)),
         ["answer", cases] => answer_all(Path::new(cases)),
         ["records", directory] => write_records(Path::new(directory)),
+        ["signatures", cases, each, directory] => {
+            write_signatures(Path::new(cases), each, Path::new(directory))
+        }
         _ => Err(io::Error::other(USAGE)),
     };
     match done {
@@ -81,4 +84,31 @@ fn write_records(directory: &Path) -> io::Result<()> {
         fs::write(directory.join(format!("{number:03}.der")), record)?;
     }
     Ok(())
+}
+
+/// Writes each so many-th signature record of a case file, one a file, and beside them the line that each is answered with.
+fn write_signatures(path: &Path, each: &str, directory: &Path) -> io::Result<()> {
+    let each: usize = each.parse().map_err(io::Error::other)?;
+    let mut file = BufReader::new(File::open(path)?);
+    let mut lines = String::new();
+    let mut number = 0;
+    while let Some(bytes) = unpack(&mut file)? {
+        let Some(case) = Case::from_bytes(&bytes) else {
+            return Err(io::Error::other("the file holds something that is no case"));
+        };
+        let Case::Read {
+            kind: Kind::Signature,
+            record,
+        } = &case
+        else {
+            continue;
+        };
+        if number % each == 0 {
+            let name = format!("{number:05}.der");
+            fs::write(directory.join(&name), record)?;
+            lines += &format!("{name} {}\n", answer(&case));
+        }
+        number += 1;
+    }
+    fs::write(directory.join("lines.txt"), lines)
 }

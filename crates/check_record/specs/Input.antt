@@ -1,4 +1,4 @@
--- What the reading of the input says: its bytes stand at the start of the buffer. Assumes nothing.
+-- What reading the input came to: how many bytes were read, no more than there is room for. Assumes nothing.
 use Prim.Native.Nat.{ℕ, _+_, _≤_, _<_}
 use mathlib.Core.List.{List}
 use Rattle.io.specs.Counts.{Counts}

@@ -35,7 +35,7 @@ unfoldable pub notes : List Entry → List ℕ → List ℕ
 notes [] d = d
 notes (x ∷ xs) d = notes xs (noted (x .name) (x .index) (x .place) (x .place + length (x .bytes)) (x .items) d)
 
--- the table after what was seen, read or counted; where it was refused, the table as it was
+-- the table after what was seen, read or counted; where it was refused, the table that is given
 abbrev pub afterSeen : Seen → List ℕ → (ℕ → ℕ → List ℕ) → List ℕ
 afterSeen (At a z) d k = k a z
 afterSeen (Bad n p) d k = d
