@@ -2,10 +2,10 @@
 // A range past the slice ends with the slice, and one that is upside down is an empty content.
 use contents::Checked;
 ghost use mathlib.Core.Path.{_≡_};
-ghost use mathlib.Core.Bool.{true, _&&_, _||_};
+ghost use mathlib.Core.Bool.{true, _&&_};
 ghost use mathlib.Core.List.{[], _∷_};
 ghost use Prim.Native.Nat.{_+_, _≤_, _<_};
-ghost use lib.Dec.{ltb, eqb};
+ghost use lib.Dec.{eqb};
 ghost use lib.ListN.{length};
 ghost use lib.Seq.{slice};
 ghost use Rattle.terms.specs.Answer.{same, pick};
@@ -56,22 +56,12 @@ fn ask_two(first: bool, n: u8, second: bool, m: u8, at: usize) -> Checked
     Checked::Wrong(n, at)
 }
 
-// Whether a content from `a` to `z` has the byte that it needs; `empty`: it may have none.
-pub fn enough(a: usize, z: usize, empty: bool) -> bool
-    ensures { λ r. ⌜ r ≡ empty || ltb a z ⌝ }
-{
-    if empty {
-        return true;
-    }
-    a < z
-}
-
 // An OCTET STRING: 14 where a byte is needed.
 pub fn octets(s: &[u8], at: usize, a: usize, z: usize, empty: bool) -> Checked
     ensures { λ r. ⌜ r ≡ checkedAt (octetsRule empty) (now (s .entry)) at a z ⌝ }
 {
     let end = windows::nearer(z, s.len());
-    ask(enough(a, end, empty), NO_BYTES, at)
+    ask(windows::enough(a, end, empty), NO_BYTES, at)
 }
 
 // Whether a content is the one byte `b`.
@@ -316,7 +306,7 @@ fn string(s: &[u8], alphabet: Alphabet, at: usize, a: usize, z: usize, empty: bo
 {
     let end = windows::nearer(z, s.len());
     ask_two(
-        enough(a, end, empty),
+        windows::enough(a, end, empty),
         NO_BYTES,
         is_text(s, alphabet, a, end),
         BAD_CHARACTER,

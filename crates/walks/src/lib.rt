@@ -57,7 +57,7 @@ fn list_head(s: &[u8], t: Tag, empty: bool, at: usize, end: usize) -> Seen
     let Seen::Item(a, z) = h else {
         return h;
     };
-    if !texts::enough(a, z, empty) {
+    if !windows::enough(a, z, empty) {
         return Seen::Refused(NO_ITEM, at);
     }
     Seen::Item(a, z)

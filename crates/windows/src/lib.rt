@@ -1,6 +1,8 @@
 // Windows of a slice: from a position up to an end that may lie past the slice.
 ghost use mathlib.Core.Path.{_≡_};
 ghost use lib.ListN.{take, drop};
+ghost use mathlib.Core.Bool.{_||_};
+ghost use lib.Dec.{ltb};
 ghost use lib.Seq.{slice};
 ghost use Rattle.windows.specs.Window.{clamp};
 
@@ -9,6 +11,16 @@ pub fn nearer(end: usize, n: usize) -> usize
     ensures { λ r. ⌜ r ≡ clamp end n ⌝ }
 {
     if end < n { end } else { n }
+}
+
+// Whether a window from `a` to `z` has the byte that it needs; `empty`: it may have none.
+pub fn enough(a: usize, z: usize, empty: bool) -> bool
+    ensures { λ r. ⌜ r ≡ empty || ltb a z ⌝ }
+{
+    if empty {
+        return true;
+    }
+    a < z
 }
 
 // A slice up to an end.

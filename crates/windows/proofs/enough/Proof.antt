@@ -1,7 +1,7 @@
 -- A byte is there just where `a` is below `z`; the first return is where none is needed.
 use borrow.Author.Needs.{needs}
-use Rattle.texts.proofs.enough.Statement.{statement}
-use Rattle.texts.proofs.enough.Tie as tie
+use Rattle.windows.proofs.enough.Statement.{statement}
+use Rattle.windows.proofs.enough.Tie as tie
 
 returns : tie.Need-returns
 returns c = search needs
