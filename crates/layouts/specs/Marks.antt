@@ -1,7 +1,7 @@
 -- Reading by positions, what it notes in the table of places. Assumes nothing.
 -- Nobody has to believe this page: `Laws.Marks` proves that an accepted item notes its fields, and code is proved against its steps.
 use Prim.Native.Nat.{ℕ, suc, zero, _+_, _-_}
-use mathlib.Core.Bool.{_&&_, _||_}
+use mathlib.Core.Bool.{Bool, _&&_, _||_}
 use mathlib.Core.List.{List, [], _∷_}
 use lib.ListN.{length, getD, set}
 use lib.Seq.{slice}
@@ -24,12 +24,16 @@ use Rattle.layouts.specs.Places.{slot}
 use Rattle.layouts.specs.declared.Tally.{Tally}
 use Rattle.layouts.specs.declared.Tally.the-variants.{Items, Refused as Uncounted}
 
+-- four numbers of the table, from `n` on, that are there and not taken
+unfoldable pub free : List ℕ → ℕ → Bool
+free d n = ltb (n + 3) (length d) && eqb (getD d n 0) 0
+
+abbrev pub filled : List ℕ → ℕ → ℕ → ℕ → ℕ → List ℕ
+filled d n a l i = set (set (set (set d n 1) (n + 1) a) (n + 2) l) (n + 3) i
+
 -- a field that starts at `a` and ends before `z` is noted under its name, once, and of a list's fields those of the first item
 unfoldable pub noted : Field → ℕ → ℕ → ℕ → ℕ → List ℕ → List ℕ
-noted f k a z n d =
-    pick (eqb k 0 && (ltb (slot f + 3) (length d) && eqb (getD d (slot f) 0) 0))
-    (set (set (set (set d (slot f) 1) (slot f + 1) a) (slot f + 2) (z - a)) (slot f + 3) n)
-    d
+noted f k a z n d = pick (eqb k 0 && free d (slot f)) (filled d (slot f) a (z - a) n) d
 
 unfoldable pub notes : List Entry → List ℕ → List ℕ
 notes [] d = d

@@ -4,7 +4,7 @@ use Prim.Native.Nat.{ℕ, suc, zero, _+_, _-_, _*_, _<_, _≤_}
 use native.Mathlib.Omega.{arith}
 use mathlib.Core.Bool.{Bool, true, false, _&&_, not}
 use mathlib.Core.List.{List, [], _∷_}
-use lib.ListN.{length, getD, set, drop}
+use lib.ListN.{length, getD, drop}
 use lib.Dec.{eqb, ltb, ltb→lt}
 use borrow.Author.Tests.{ne-eqb, lt-ltb, le-ltb}
 use Rattle.terms.specs.declared.Field.{Field}
@@ -12,7 +12,7 @@ use Rattle.terms.specs.Names.{code}
 use Rattle.terms.specs.Laws.Names.{nameOf, code-name}
 use Rattle.terms.specs.Answer.{pick}
 use Rattle.layouts.specs.Places.{names-count, under, slot}
-use Rattle.layouts.specs.Marks.{noted}
+use Rattle.layouts.specs.Marks.{free, filled, noted}
 
 -- a name is numbered by its place among the names
 pub slot-name : (f : Field) (n r : ℕ) → f ≡ nameOf n → n < names-count → r ≡ 4 * n → r ≡ slot f
@@ -21,13 +21,6 @@ slot-name f n r h k q = q ∙ ap (λ (z : ℕ). 4 * z) (sym (ap code h ∙ code-
 
 -- ---- noting a field
 
--- a place in a table that is not taken
-unfoldable pub free : List ℕ → ℕ → Bool
-free d n = ltb (n + 3) (length d) && eqb (getD d n 0) 0
-
-abbrev pub filled : List ℕ → ℕ → ℕ → ℕ → ℕ → List ℕ
-filled d n a l i = set (set (set (set d n 1) (n + 1) a) (n + 2) l) (n + 3) i
-
 module _ (f : Field) (k a z i : ℕ) (d : List ℕ) where
   pub noted-later : (k ≡ 0 → ⊥) → d ≡ noted f k a z i d
   unfolding noted pick
@@ -35,11 +28,11 @@ module _ (f : Field) (k a z i : ℕ) (d : List ℕ) where
 
   module _ (n : ℕ) (b : Bool) (h : k ≡ 0) (q : n ≡ slot f) (e : b ≡ free d n) where
     pub noted-taken : b ≡ false → d ≡ noted f k a z i d
-    unfolding noted pick free
+    unfolding noted pick
     noted-taken g = rw (h, ← q, ← e, g)
 
     pub noted-free : (x : List ℕ) (l : ℕ) → b ≡ true → l ≡ z - a → x ≡ filled d n a l i → x ≡ noted f k a z i d
-    unfolding noted pick free
+    unfolding noted pick
     noted-free x l g m y = rw (h, ← q, ← e, g, ← m) y
 
 -- what is free lies in the table, each of the four numbers

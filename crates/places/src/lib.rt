@@ -7,9 +7,8 @@ ghost use mathlib.Core.List.{[], _∷_};
 ghost use lib.ListN.{getD, drop, length as size};
 ghost use lib.Dec.{eqb};
 ghost use Rattle.layouts.specs.Places.{names-count, table-size, slot, under as numbersUnder};
-ghost use Rattle.layouts.specs.Marks.{noted};
+ghost use Rattle.layouts.specs.Marks.{free, filled, noted};
 ghost use Rattle.terms.specs.Laws.Names.{nameOf};
-ghost use Rattle.places.specs.Laws.{free, filled};
 
 // The numbers under a name.
 const NUMBERS_EACH: usize = 4;

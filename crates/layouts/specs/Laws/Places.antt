@@ -16,7 +16,7 @@ use Rattle.terms.specs.Laws.Names.{code-below, nameOf, code-name}
 use Rattle.terms.specs.Laws.Answer.{test, and-l, and-r, both, pick-yes, pick-no}
 use Rattle.layouts.specs.Fields.{Entry, isField, first}
 use Rattle.layouts.specs.Places.{table-size, slot, under, numbersOf, Placed}
-use Rattle.layouts.specs.Marks.{noted, notes}
+use Rattle.layouts.specs.Marks.{free, noted, notes}
 
 -- ---- a run of stores
 
@@ -60,17 +60,22 @@ abbrev noting : Entry → List ℕ → List ℕ
 noting x d = noted (x .name) (x .index) (x .place) (x .place + length (x .bytes)) (x .items) d
 
 -- the test that decides whether it is noted
-abbrev free : Entry → List ℕ → Bool
-free x d = eqb (x .index) 0 && (ltb (slot (x .name) + 3) (length d) && eqb (getD d (slot (x .name)) 0) 0)
+abbrev isNoted : Entry → List ℕ → Bool
+isNoted x d = eqb (x .index) 0 && free d (slot (x .name))
 
 -- what that test says
-free-is : (x : Entry) (d : List ℕ) → T (free x d) → (x .index ≡ 0) × (slot (x .name) + 3 < length d) × (getD d (slot (x .name)) 0 ≡ 0)
-free-is x d t =
+noted-is : (x : Entry) (d : List ℕ) → T (isNoted x d) → (x .index ≡ 0) × (slot (x .name) + 3 < length d) × (getD d (slot (x .name)) 0 ≡ 0)
+unfolding free
+noted-is x d t =
     let t′ = and-r (eqb (x .index) 0) _ t in
     (eqb→eq (x .index) 0 (and-l (eqb (x .index) 0) _ t), ltb→lt (slot (x .name) + 3) (length d) (and-l (ltb (slot (x .name) + 3) (length d)) _ t′), eqb→eq (getD d (slot (x .name)) 0) 0 (and-r (ltb (slot (x .name) + 3) (length d)) _ t′))
 
+noted-so : (x : Entry) (d : List ℕ) → x .index ≡ 0 → slot (x .name) + 3 < length d → getD d (slot (x .name)) 0 ≡ 0 → T (isNoted x d)
+unfolding free
+noted-so x d i b z = both (eqb (x .index) 0) _ (rw i tt) (both (ltb (slot (x .name) + 3) (length d)) _ (lt→ltb _ _ b) (rw z tt))
+
 -- a field that is noted is stored in four numbers
-noted-free : (x : Entry) (d : List ℕ) → T (free x d) → noting x d ≡ sets d (slot (x .name)) (numbersOf (some x))
+noted-free : (x : Entry) (d : List ℕ) → T (isNoted x d) → noting x d ≡ sets d (slot (x .name)) (numbersOf (some x))
 unfolding noted
 noted-free x d t =
     let p : slot (x .name) + 1 ≡ suc (slot (x .name)) = omega arith in
@@ -80,23 +85,23 @@ noted-free x d t =
     pick-yes _ _ _ t ∙ rw (p, q, r, m)
 
 -- a field that is not noted changes nothing
-noted-held : (x : Entry) (d : List ℕ) → T (not (free x d)) → noting x d ≡ d
+noted-held : (x : Entry) (d : List ℕ) → T (not (isNoted x d)) → noting x d ≡ d
 unfolding noted
 noted-held x d t = pick-no _ _ _ t
 
 -- either way the table keeps its size
 length-noted : (x : Entry) (d : List ℕ) → length (noting x d) ≡ length d
 length-noted x d =
-    test (free x d)
+    test (isNoted x d)
     (λ t. rw (noted-free x d t) (length-sets d (slot (x .name)) (numbersOf (some x))))
     (λ t. rw (noted-held x d t))
 
 module _ (f : Field) where
   -- a field of another name, and one that is not noted, leave what stands under a name
-  noted-past : (x : Entry) (d : List ℕ) → (code f ≡ code (x .name) → T (free x d) → ⊥) → under f (noting x d) ≡ under f d
+  noted-past : (x : Entry) (d : List ℕ) → (code f ≡ code (x .name) → T (isNoted x d) → ⊥) → under f (noting x d) ≡ under f d
   unfolding under slot
   noted-past x d h =
-      test (free x d)
+      test (isNoted x d)
       (λ t. rw (noted-free x d t)
       (under-is f (sets d (slot (x .name)) (numbersOf (some x))) (under f d) refl λ j b.
       sets-other (numbersOf (some x)) d (slot (x .name)) (slot f + j) (λ i c e. h (omega arith) t) ∙ sym (under-at f d j b)))
@@ -108,10 +113,10 @@ module _ (f : Field) where
   slot-alike g e = ap (λ (k : ℕ). 4 * k) (sym e)
 
   -- a field that is noted stands under its name
-  noted-there : (x : Entry) (d : List ℕ) → code f ≡ code (x .name) → T (free x d) → under f (noting x d) ≡ numbersOf (some x)
+  noted-there : (x : Entry) (d : List ℕ) → code f ≡ code (x .name) → T (isNoted x d) → under f (noting x d) ≡ numbersOf (some x)
   noted-there x d e t =
       let s = slot-alike (x .name) e in
-      let b = free-is x d t in
+      let b = noted-is x d t in
       rw (noted-free x d t, s) (under-is f (sets d (slot f) (numbersOf (some x))) (numbersOf (some x)) refl λ j c. sets-here (numbersOf (some x)) d (slot f) j (omega arith) c)
 
   -- a field that is asked for has the name's number and the index 0
@@ -132,7 +137,7 @@ module _ (f : Field) where
   unfolding notes under
   kept [] d h = refl
   kept (x ∷ xs) d h =
-      let u = noted-past x d λ e t. let z : getD d (slot f) 0 ≡ 0 = rw (← slot-alike (x .name) e) (free-is x d t .2) in omega arith in
+      let u = noted-past x d λ e t. let z : getD d (slot f) 0 ≡ 0 = rw (← slot-alike (x .name) e) (noted-is x d t .2) in omega arith in
       kept xs (noting x d) (first-is f (noting x d) (under f d) u ∙ h) ∙ u
 
   -- under a name that is empty the first field of that name comes to stand
@@ -145,10 +150,10 @@ module _ (f : Field) where
       let s = slot-alike (x .name) (q .0) in
       let c = code-below f in
       let b : slot (x .name) + 3 < length d = rw s (unfold slot in omega arith) in
-      let w : T (free x d) = both (eqb (x .index) 0) _ (rw (q .1) tt) (both (ltb (slot (x .name) + 3) (length d)) _ (lt→ltb _ _ b) (rw (s, first-is f d (numbersOf none) h) tt)) in
+      let w = noted-so x d (q .1) b (rw s (first-is f d (numbersOf none) h)) in
       let u = noted-there x d (q .0) w in
       rw (pick-yes _ _ _ t) (kept xs (noting x d) (first-is f (noting x d) (numbersOf (some x)) u) ∙ u))
-      (λ t. let u = noted-past x d λ e w. T-not (isField f 0 x) t (is-field x e (free-is x d w .0)) in
+      (λ t. let u = noted-past x d λ e w. T-not (isField f 0 x) t (is-field x e (noted-is x d w .0)) in
       rw (pick-no _ _ _ t) (found xs (noting x d) (length-noted x d ∙ l) (u ∙ h)))
 
 -- the table that is made is the one that is asked for
