@@ -15,7 +15,7 @@ use std::process::ExitCode;
 /// The number of records that openssl was shown.
 const RECORDS: usize = 500;
 
-const USAGE: &str = "usage: second make DIRECTORY | second answer CASES | second records DIRECTORY\n       second signatures CASES EACH DIRECTORY";
+const USAGE: &str = "usage: second make DIRECTORY | second answer CASES | second records DIRECTORY\n       second signatures CASES EACH DIRECTORY | second lines DIRECTORY";
 
 /// Runs the command that the arguments name.
 fn main() -> ExitCode {
@@ -27,6 +27,7 @@ fn main() -> ExitCode {
         ["signatures", cases, each, directory] => {
             write_signatures(Path::new(cases), each, Path::new(directory))
         }
+        ["lines", directory] => print_lines(Path::new(directory)),
         _ => Err(io::Error::other(USAGE)),
     };
     match done {
@@ -111,4 +112,22 @@ fn write_signatures(path: &Path, each: &str, directory: &Path) -> io::Result<()>
         number += 1;
     }
     fs::write(directory.join("lines.txt"), lines)
+}
+
+/// Prints the line of each record of a directory, by name.
+fn print_lines(directory: &Path) -> io::Result<()> {
+    let mut names: Vec<_> = fs::read_dir(directory)?
+        .map(|entry| entry.map(|entry| entry.path()))
+        .collect::<io::Result<_>>()?;
+    names.retain(|path| path.extension().is_some_and(|end| end == "der"));
+    names.sort();
+    for path in names {
+        let case = Case::Read {
+            kind: Kind::Signature,
+            record: fs::read(&path)?,
+        };
+        let name = path.file_name().unwrap_or_default().to_string_lossy();
+        println!("{name} {}", answer(&case));
+    }
+    Ok(())
 }
