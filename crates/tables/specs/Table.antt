@@ -74,6 +74,10 @@ inner (node t r) = r
 inner (list t e n f i) = end
 inner (wrap t i) = end
 
+-- the members of a custom item, of a seal or of a signed part; the name of the whole item is not among them
+abbrev pub customItem : Field → Field → Field → Members
+customItem id critical value′ = inner (itemIn (rules.customData id id critical value′))
+
 -- an item by its kind
 abbrev pub itemOf : Shape → Kind → Item
 itemOf x (kind.Leaf f) = leaf (leafOf f)

@@ -4,8 +4,11 @@ use terms::Field;
 ghost use mathlib.Core.Path.{_≡_};
 ghost use Prim.Native.Nat.{_≤_};
 ghost use Rattle.items.specs.Scan.{tagByte};
-ghost use Rattle.layouts.specs.Layout.{end, tagOf};
-ghost use Rattle.tables.specs.Table.{leafOf, inner, layoutOf, itemOf, membersOf};
+ghost use Rattle.layouts.specs.Layout.{tagOf};
+ghost use Rattle.tables.specs.Table.{leafOf, inner, layoutOf, customItem, itemOf, membersOf};
+
+// The members of a row, filled up.
+pub const MEMBERS: usize = 6;
 
 // What a primitive item holds; `Any`: it may have no bytes.
 pub enum Form {
@@ -168,7 +171,7 @@ pub fn tag_of(x: Shape) -> Tag
 }
 
 // The signature record: signed part; signer certificate; algorithm; signature; stamp.
-fn signature() -> [Member; 6]
+fn signature() -> [Member; MEMBERS]
     ensures { λ r. ⌜ inner (layoutOf Shape.Signature) ≡ membersOf r ⌝ }
 {
     [
@@ -182,7 +185,7 @@ fn signature() -> [Member; 6]
 }
 
 // The signed part: 4; seal; signing time; original digest; property text; custom data.
-fn signed_part() -> [Member; 6]
+fn signed_part() -> [Member; MEMBERS]
     ensures { λ r. ⌜ inner (layoutOf Shape.SignedPart) ≡ membersOf r ⌝ }
 {
     [
@@ -196,7 +199,7 @@ fn signed_part() -> [Member; 6]
 }
 
 // The seal: seal information; maker certificate; algorithm; signed value.
-fn seal() -> [Member; 6]
+fn seal() -> [Member; MEMBERS]
     ensures { λ r. ⌜ inner (layoutOf Shape.Seal) ≡ membersOf r ⌝ }
 {
     [
@@ -210,7 +213,7 @@ fn seal() -> [Member; 6]
 }
 
 // Seal information: header; seal id; property; picture; custom data.
-fn seal_information() -> [Member; 6]
+fn seal_information() -> [Member; MEMBERS]
     ensures { λ r. ⌜ inner (layoutOf Shape.SealInformation) ≡ membersOf r ⌝ }
 {
     [
@@ -224,7 +227,7 @@ fn seal_information() -> [Member; 6]
 }
 
 // The header: "ES"; 4; vendor.
-fn header() -> [Member; 6]
+fn header() -> [Member; MEMBERS]
     ensures { λ r. ⌜ inner (layoutOf Shape.Header) ≡ membersOf r ⌝ }
 {
     [
@@ -238,7 +241,7 @@ fn header() -> [Member; 6]
 }
 
 // The property: type; name; list kind and certificate list; created, start and end.
-fn property() -> [Member; 6]
+fn property() -> [Member; MEMBERS]
     ensures { λ r. ⌜ inner (layoutOf Shape.Property) ≡ membersOf r ⌝ }
 {
     [
@@ -257,7 +260,7 @@ fn property() -> [Member; 6]
 }
 
 // An entry of a kind 2 list: a name and a digest.
-fn digest() -> [Member; 6]
+fn digest() -> [Member; MEMBERS]
     ensures { λ r. ⌜ inner (layoutOf Shape.Digest) ≡ membersOf r ⌝ }
 {
     [
@@ -271,7 +274,7 @@ fn digest() -> [Member; 6]
 }
 
 // The picture: type; data; width and height.
-fn picture() -> [Member; 6]
+fn picture() -> [Member; MEMBERS]
     ensures { λ r. ⌜ inner (layoutOf Shape.Picture) ≡ membersOf r ⌝ }
 {
     [
@@ -284,43 +287,58 @@ fn picture() -> [Member; 6]
     ]
 }
 
-// A custom item of a seal: identifier; critical; value.
-fn seal_custom_item() -> [Member; 6]
-    ensures { λ r. ⌜ inner (layoutOf Shape.SealCustomItem) ≡ membersOf r ⌝ }
+// A custom item: identifier; critical; value.
+fn custom_item(id: Field, critical: Field, value: Field) -> [Member; MEMBERS]
+    ensures { λ r. ⌜ customItem id critical value ≡ membersOf r ⌝ }
 {
     [
-        Member::Leaf(Field::SealCustomId, Form::Identifier),
-        Member::Flag(Field::SealCustomCritical),
-        Member::Leaf(Field::SealCustomValue, Form::AnyOctets),
+        Member::Leaf(id, Form::Identifier),
+        Member::Flag(critical),
+        Member::Leaf(value, Form::AnyOctets),
         Member::Blank,
         Member::Blank,
         Member::Blank,
     ]
 }
 
-// A custom item of a signed part: identifier; critical; value.
-fn signed_custom_item() -> [Member; 6]
+// A custom item of a seal.
+fn seal_custom_item() -> [Member; MEMBERS]
+    ensures { λ r. ⌜ inner (layoutOf Shape.SealCustomItem) ≡ membersOf r ⌝ }
+{
+    custom_item(
+        Field::SealCustomId,
+        Field::SealCustomCritical,
+        Field::SealCustomValue,
+    )
+}
+
+// A custom item of a signed part.
+fn signed_custom_item() -> [Member; MEMBERS]
     ensures { λ r. ⌜ inner (layoutOf Shape.SignedCustomItem) ≡ membersOf r ⌝ }
 {
-    [
-        Member::Leaf(Field::SignedCustomId, Form::Identifier),
-        Member::Flag(Field::SignedCustomCritical),
-        Member::Leaf(Field::SignedCustomValue, Form::AnyOctets),
-        Member::Blank,
-        Member::Blank,
-        Member::Blank,
-    ]
+    custom_item(
+        Field::SignedCustomId,
+        Field::SignedCustomCritical,
+        Field::SignedCustomValue,
+    )
 }
 
 // The row of an item that has no members.
-fn nothing() -> [Member; 6]
-    ensures { λ r. ⌜ end ≡ membersOf r ⌝ }
+fn nothing() -> [Member; MEMBERS]
+    ensures { λ r. ⌜ inner (layoutOf Shape.Certificates) ≡ membersOf r ⌝ }
+    ensures { λ r. ⌜ inner (layoutOf Shape.Certificate) ≡ membersOf r ⌝ }
+    ensures { λ r. ⌜ inner (layoutOf Shape.Digests) ≡ membersOf r ⌝ }
+    ensures { λ r. ⌜ inner (layoutOf Shape.SealCustomData) ≡ membersOf r ⌝ }
+    ensures { λ r. ⌜ inner (layoutOf Shape.TaggedCustomData) ≡ membersOf r ⌝ }
+    ensures { λ r. ⌜ inner (layoutOf Shape.SignedCustomData) ≡ membersOf r ⌝ }
+    ensures { λ r. ⌜ inner (layoutOf Shape.TaggedStamp) ≡ membersOf r ⌝ }
+    ensures { λ r. ⌜ inner (layoutOf Shape.Stamp) ≡ membersOf r ⌝ }
 {
-    [Member::Blank; 6]
+    [Member::Blank; MEMBERS]
 }
 
 // The row of an item.
-pub fn members_of(x: Shape) -> [Member; 6]
+pub fn members_of(x: Shape) -> [Member; MEMBERS]
     ensures { λ r. ⌜ inner (layoutOf x) ≡ membersOf r ⌝ }
 {
     match x {
