@@ -5,6 +5,7 @@ use items::Tag;
 use layouts::Tally;
 use tables::Form;
 use tables::Kind;
+use tables::MEMBERS;
 use tables::Member;
 use tables::Shape;
 use terms::Field;
@@ -19,9 +20,6 @@ const LARGEST_RECORD: usize = 65535;
 
 // The most items of a list.
 const MOST_ITEMS: usize = 64;
-
-// The members of a row, filled up.
-const MEMBERS: usize = 6;
 
 // A certificate list with no item.
 const NO_ITEM: u8 = 15;
@@ -122,9 +120,9 @@ fn row(s: &[u8], x: Shape, index: usize, at: usize, end: usize, places: &mut [us
     let mut p = at;
     let mut k: usize = 0;
     while k < MEMBERS {
-        let r = member(s, members[k], index, p, end, places);
-        let Step::Next(q) = r else {
-            return r;
+        let passed = member(s, members[k], index, p, end, places);
+        let Step::Next(q) = passed else {
+            return passed;
         };
         p = q;
         k += 1;
@@ -187,8 +185,8 @@ fn list(s: &[u8], x: Shape, name: Field, at: usize, end: usize, places: &mut [us
     Tally::Items(k)
 }
 
-// A record at a position, whatever follows it: where it ends, or the first refusal in it. The fields that it passes are noted in a
-// table that was zeros; after a refusal the table holds those that were passed, and the caller throws it away.
+// A record at a position, whatever follows it: where it ends, or the first refusal in it. The fields that it passes are noted, also
+// those before a refusal.
 pub fn record(s: &[u8], x: Shape, at: usize, end: usize, places: &mut [usize]) -> Step
     ensures { λ r. ⌜ (r, now (places .exit)) ≡ recordWalk (inner (layoutOf x)) (now (s .entry)) at end (now (places .entry)) ⌝ }
 {

@@ -438,8 +438,8 @@ row-array-copy-out-member t c = search needs
 row-member-requires : (t : ℕ) → row-lts.Need-member-requires (row-c t) (row-at t) row.Post row-Inv-loop row-μ-loop
 row-member-requires t c κs = search (needs, member-smaller)
 
-row-enum-known-r : (t : ℕ) → row-lts.Need-enum-known-r (row-c t) (row-at t) row.Post row-Inv-loop row-μ-loop
-row-enum-known-r t c = search needs
+row-enum-known-passed : (t : ℕ) → row-lts.Need-enum-known-passed (row-c t) (row-at t) row.Post row-Inv-loop row-μ-loop
+row-enum-known-passed t c = search needs
 
 row-enum-told : (t : ℕ) → row-lts.Need-enum-told (row-c t) (row-at t) row.Post row-Inv-loop row-μ-loop
 row-enum-told t c = search needs
@@ -588,7 +588,7 @@ pub +item+list+member+row-spec : {M : Type 1} → statement M
     (row-mul-member t)
     (row-array-copy-out-member t)
     (row-member-requires t)
-    (row-enum-known-r t)
+    (row-enum-known-passed t)
     (row-enum-told t)
     (row-same-length t)
     (row-returns t)
