@@ -25,8 +25,5 @@ module _ (x : Read) (k n : ℕ) (b b′ b₀ : List ℕ) (i : x ≡ More k) (r :
 pub filled : (b b′ : List ℕ) (n : ℕ) → n ≤ length b → length b′ ≡ length b → Filled (Bytes n) b′
 filled b b′ n h e = let g : n ≤ length b′ = omega arith in (g, sym (length-take-le n b′ g))
 
-pub filled-here : (b : List ℕ) (n : ℕ) → n ≤ length b → Filled (Bytes n) b
-filled-here b n g = (g, sym (length-take-le n b g))
-
 pub counted : (x : Input) (n : ℕ) (b : List ℕ) → x ≡ Bytes n → Filled x b → Counts n b
 counted x n b i f = subst (λ (y : Input). Filled y b) i f

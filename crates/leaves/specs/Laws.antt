@@ -1,10 +1,9 @@
 -- A primitive item by its head and its rule; the small questions. Assumes nothing.
 use mathlib.Core.Path.{_≡_, refl, sym, ap, _∙_}
-use Prim.Native.Nat.{ℕ, suc, zero, _≤_, _<_}
-use native.Mathlib.Omega.{arith}
+use Prim.Native.Nat.{ℕ, _≤_, _<_}
 use mathlib.Core.Bool.{false}
-use mathlib.Core.List.{List, [], _∷_}
-use lib.ListN.{length, getD}
+use mathlib.Core.List.{List}
+use lib.ListN.{length, getD, List·getD-eq-default}
 use lib.Seq.{slice}
 use lib.Dec.{ltb, eqb, lt→ltb}
 use borrow.Author.Tests.{lt-ltb, le-ltb}
@@ -70,11 +69,6 @@ not-zero tag.Time = refl
 not-zero tag.Sequence = refl
 not-zero tag.Context0 = refl
 
-getD-out : (s : List ℕ) (p d : ℕ) → length s ≤ p → getD s p d ≡ d
-getD-out [] p d h = refl
-getD-out (x ∷ s) zero d h = let f : ⊥ = omega arith in absurd f
-getD-out (x ∷ s) (suc p) d h = getD-out s p d (omega arith)
-
 module _ (t : Tag) (s : List ℕ) (p e : ℕ) where
   pub begins-end : e ≤ p → false ≡ beginsAt (tagByte t) s p e
   unfolding beginsAt
@@ -82,7 +76,7 @@ module _ (t : Tag) (s : List ℕ) (p e : ℕ) where
 
   pub begins-out : p < e → length s ≤ p → false ≡ beginsAt (tagByte t) s p e
   unfolding beginsAt
-  begins-out h k = rw (lt-ltb p e h, getD-out s p 0 k) (sym (not-zero t))
+  begins-out h k = rw (lt-ltb p e h, List·getD-eq-default s 0 k) (sym (not-zero t))
 
   pub begins-in : (b : ℕ) → p < e → b ≡ tagByte t → eqb (getD s p 0) b ≡ beginsAt (tagByte t) s p e
   unfolding beginsAt

@@ -1,10 +1,10 @@
 -- A name's slot, and the steps of noting a field. Assumes nothing.
 use mathlib.Core.Path.{_≡_, refl, sym, ap, _∙_}
-use Prim.Native.Nat.{ℕ, suc, zero, _+_, _-_, _*_, _<_, _≤_}
+use Prim.Native.Nat.{ℕ, _+_, _-_, _*_, _<_, _≤_}
 use native.Mathlib.Omega.{arith}
 use mathlib.Core.Bool.{Bool, true, false, _&&_, not}
 use mathlib.Core.List.{List, [], _∷_}
-use lib.ListN.{length, getD, drop}
+use lib.ListN.{length, getD, drop, List·getD-eq-default}
 use lib.Dec.{eqb, ltb, ltb→lt}
 use borrow.Author.Tests.{ne-eqb, lt-ltb, le-ltb}
 use Rattle.terms.specs.declared.Field.{Field}
@@ -54,9 +54,7 @@ free-zero d n h = rw (lt-ltb (n + 3) (length d) h)
 
 -- past the end of a table stands nothing
 pub getD-past : (d : List ℕ) (n : ℕ) → length d ≤ n → 0 ≡ getD d n 0
-getD-past [] n h = refl
-getD-past (x ∷ d) zero h = absurd (omega arith)
-getD-past (x ∷ d) (suc n) h = getD-past d n (omega arith)
+getD-past d n h = sym (List·getD-eq-default d 0 h)
 
 -- what stands under a name, by its slot
 module _ (d : List ℕ) (f : Field) (n : ℕ) (h : n ≡ slot f) where

@@ -1,6 +1,6 @@
 -- A record that is the whole input: what is told of it, and where its fields stand. Assumes nothing.
 use mathlib.Core.Path.{_≡_, refl, sym, ap, _∙_}
-use Prim.Native.Nat.{ℕ, _-_}
+use Prim.Native.Nat.{ℕ}
 use native.Mathlib.Omega.{arith}
 use mathlib.Core.List.{List, []}
 use lib.ListN.{length, replicate}
@@ -11,9 +11,8 @@ use Rattle.heads.specs.declared.Seen.{Seen}
 use Rattle.heads.specs.declared.Seen.the-variants.{Item as At, Refused as Bad}
 use Rattle.heads.specs.declared.Step.{Step}
 use Rattle.heads.specs.declared.Step.the-variants.{Next, Refused}
-use Rattle.contents.specs.Integer.{is}
 use Rattle.layouts.specs.Layout.{Members, Values}
-use Rattle.layouts.specs.Scan.{thenSeen, closeAt, scan, scans, recordScan, wholeScan}
+use Rattle.layouts.specs.Scan.{thenSeen, closeAt, scans, recordScan, wholeScan}
 use Rattle.layouts.specs.Laws.Scan.{whole, whole-accept}
 use Rattle.layouts.specs.Whole.{sequence, accept, toldOutcome}
 use Rattle.layouts.specs.declared.Outcome.{Outcome}

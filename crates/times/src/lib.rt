@@ -215,10 +215,10 @@ pub fn moment(s: &[u8], a: usize, z: usize) -> u64
     ensures { λ r. ⌜ instant r ≡ momentOf (slice a z (now (s .entry))) ⌝ }
 {
     let t = time_in(windows::window(s, a, z));
-    let Reading::Number(n) = t else {
-        return 0;
-    };
-    n
+    match t {
+        Reading::Number(n) => n,
+        Reading::Nothing => 0,
+    }
 }
 
 // Whether the first eight of fourteen digits are a date.

@@ -28,7 +28,6 @@ use Rattle.contents.specs.Rules.{integerRule}
 use Rattle.integers.specs.Number.{isOne}
 use Rattle.layouts.specs.Layout.{Item, leaf, node, list, wrap, Members, end, _▸_, Member as Part, known, one, maybe, flag, choose, tagOf}
 use Rattle.layouts.specs.Scan.{thenSeen, thenStep, thenJudge, judgeAt, ruleAt, leafAt, beginsAt, closeAt, scanMany, scan, scanPart, recordScan}
-use Rattle.layouts.specs.Laws.Scan.{whole}
 use Rattle.layouts.specs.Whole.{sequence}
 use Rattle.leaves.specs.Leaf.{wordTag, wordRule, pastOf}
 use Rattle.tables.specs.declared.Form.{Form}

@@ -3,7 +3,7 @@ use mathlib.Core.Path.{_≡_}
 use Prim.Native.Nat.{_-_, _≤_}
 use lib.ListN.{length}
 use borrow.Author.Needs.{needs}
-use Rattle.check_record.specs.Laws.{moved, inside, less, filled, filled-here}
+use Rattle.check_record.specs.Laws.{moved, inside, less, filled}
 use Rattle.check_record.proofs.fill.Statement.{statement}
 use Rattle.check_record.proofs.fill.Tie as tie
 use Rattle.check_record.proofs.read_some.Reads as read-some-reads
@@ -54,7 +54,7 @@ same-length-3 : tie.Need-same-length-3 Inv-loop μ-loop
 same-length-3 c = search needs
 
 returns-3 : tie.Need-returns-3 Inv-loop μ-loop
-returns-3 c = search (needs, filled-here)
+returns-3 c = search (needs, filled)
 
 pub fill-spec : {M : Type 1} → statement M
 fill-spec =

@@ -17,10 +17,10 @@ enum-told : tie.Need-enum-told
 enum-told c = search needs
 
 returns : tie.Need-returns
-returns c = search (needs, no-moment)
+returns c = search (needs, that-moment)
 
 returns-2 : tie.Need-returns-2
-returns-2 c = search (needs, that-moment)
+returns-2 c = search (needs, no-moment)
 
 pub moment-spec : {M : Type 1} → statement M
 moment-spec =
