@@ -1,18 +1,18 @@
 -- The primitive items of document 01: tag, rule and section. "A string, identifier or time is a section of its content bytes
 -- (a bit string without its 00). An integer is a section of 8 bytes." Assumes nothing.
-use mathlib.Core.Path.{refl}
+use mathlib.Core.Path.{_≡_, refl}
 use mathlib.Core.Bool.{Bool, true, false}
 use mathlib.Core.Option.{some}
-use mathlib.Core.List.{List, _∷_}
+use mathlib.Core.List.{List, [], _∷_, _++_}
 use Prim.Native.Nat.{ℕ}
-use lib.ListN.{drop}
+use lib.ListN.{length, drop}
 use lib.IntN.{ℤ}
-use Rattle.contents.specs.Content.{Check, Leaf}
+use Rattle.contents.specs.Content.{Check, fine, Leaf}
 use Rattle.contents.specs.Integer.{stretch, unstretch}
 use Rattle.contents.specs.Text as Text
 use Rattle.contents.specs.Time.{timeRule}
 use Rattle.contents.specs.Rules.{integerRule, stringRule, octetsRule, bitsRule, identifierRule, booleanRule}
-use Rattle.contents.specs.Laws.Leaves.{plain-back, plain-near, integer-there, bits-there, bits-back, bits-near}
+use Rattle.contents.specs.Laws.Leaves.{shown-back, shown-near, integer-there, bits-there}
 use Rattle.contents.specs.Laws.Integer.{stretch-back, stretch-near}
 
 -- a string whose bytes may be none, and one that needs a byte
@@ -22,15 +22,19 @@ may-be-empty = true
 abbrev pub needs-a-byte : Bool
 needs-a-byte = false
 
--- a section that is the content
+-- an item whose section is the bytes that are handed out: its content after the bytes that every content of it begins with
+abbrev shown : ℕ → (r : List ℕ → Check) → (front : List ℕ) → ((c : List ℕ) → r c ≡ fine → some (front ++ drop (length front) c) ≡ some c) → Leaf
+shown t r front e = record { tag = t; rule = r; hidden = length front; pack = drop (length front); unpack = λ x. some (front ++ x); there = e; back = shown-back front; near = shown-near front }
+
+-- one whose content begins with no such bytes
 abbrev pub plain : ℕ → (List ℕ → Check) → Leaf
-plain t r = record { tag = t; rule = r; hidden = 0; pack = λ c. c; unpack = λ x. some x; there = λ c h. refl; back = plain-back; near = plain-near }
+plain t r = shown t r [] (λ c h. refl)
 
 abbrev pub integer : (ℤ → Bool) → Leaf
 integer p = record { tag = 0x02; rule = integerRule p; hidden = 0; pack = stretch; unpack = unstretch; there = integer-there p; back = stretch-back; near = stretch-near }
 
 abbrev pub bitString : Leaf
-bitString = record { tag = 0x03; rule = bitsRule; hidden = 1; pack = drop 1; unpack = λ x. some (0x00 ∷ x); there = bits-there; back = bits-back; near = bits-near }
+bitString = shown 0x03 bitsRule (0x00 ∷ []) bits-there
 
 abbrev pub octetString : Bool → Leaf
 octetString e = plain 0x04 (octetsRule e)

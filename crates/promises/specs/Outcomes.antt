@@ -1,5 +1,5 @@
--- Each contract says what a function's answer tells in the paper's terms. These are the proofs that this admits one answer only:
--- two answers that tell the same are the same. Assumes nothing.
+-- The contract of a reader, a writer or a judge says what its answer tells in the paper's terms. These are the proofs that this admits one
+-- answer only: two answers that tell the same are the same. Assumes nothing.
 use mathlib.Core.Path.{_≡_, refl, sym, ap, _∙_}
 use mathlib.Core.Bool.{true, false}
 use mathlib.Core.List.{List, [], _∷_}

@@ -1,4 +1,5 @@
--- What the project promises its user, over the definitions that the public contracts cite. Read this page first. Assumes nothing.
+-- What the project promises its user, over the definitions of the rules: the contracts of code cite those that have code. Read this page
+-- first. Where a line in quotes follows the word demand, it is one of the three that docs/PROMISES.md begins with. Assumes nothing.
 -- A record is a seal or a signature record: `seal` and `signature` are the layouts of document 01, `v` is a record's field values.
 use mathlib.Core.Path.{_≡_, refl, sym, ap, _∙_, subst}
 use mathlib.Core.Bool.{Bool, false, not, _&&_}
@@ -25,15 +26,14 @@ use Rattle.layouts.specs.Places.{under, numbersOf, Placed}
 use Rattle.layouts.specs.Laws.Reading.{clear, clears, spare, prefix-free}
 use Rattle.layouts.specs.Laws.Whole as Whole
 use Rattle.layouts.specs.Laws.Fields.{fields-stand, first-stands}
-use Rattle.records.specs.Record.{seal, signature}
+use Rattle.records.specs.Record.{sealInformation, seal, signedPart, signature}
 use Rattle.records.specs.Handing.{readRecord, recordAnswer, fieldsOf, fieldsIn, fillFrom, writeFrom, fillAfter, writeAfter, signedBytes, informationOf, signedPartOf, sealOf}
 use Rattle.records.specs.Laws.Record as Record
 use Rattle.runs.specs.Run.{runOf, whole, stopped, readRun, hereAt, taken, ended, faulty}
 use Rattle.runs.specs.Laws.Run as Runs
-use Rattle.verdicts.specs.Verdict.{firstFailing, First, takesNotice, Facts, signatureSteps, signatureValid, sealSteps, sealValid, makerOut, judged, signatureVerdict, sealVerdict}
+use Rattle.verdicts.specs.Verdict.{firstFailing, First, takesNotice, Facts, factsOf, signatureSteps, signatureValid, sealSteps, sealValid, makerOut, judged, signatureVerdict, sealVerdict}
 use Rattle.verdicts.specs.Findings.{allReal}
 use Rattle.verdicts.specs.Laws.Verdict as Verdict
-use Rattle.verdicts.specs.Laws.Verdict.{factsOf}
 use Rattle.verdicts.specs.declared.Findings.{Findings}
 use Rattle.verdicts.specs.declared.Verdict.the-variants.{Judged, Refused}
 
@@ -157,6 +157,13 @@ module _ (r : Members) (k : Clear r) where
   unfolding encode
   no-beginning u v a b rest e =
       let p = prefix-free (node sequence r) k u v rest [] (a .0) (b .0) (omega (arith, a .1)) (omega (arith, b .1)) (e ∙ sym (append-nil (recordOf r v))) in p .1
+
+-- "Signed bytes are the signed part, or the seal information, with its own tag and length."
+pub signed-bytes : (v : Values signature) → signedBytes SignedPart signature v ≡ recordOf signedPart (signedPartOf v)
+signed-bytes v = Record.signed-signature v
+
+pub sealed-bytes : (v : Values seal) → signedBytes SealInformation seal v ≡ recordOf sealInformation (informationOf v)
+sealed-bytes v = Record.signed-seal v
 
 -- "equal signed bytes mean equal fields, the seal included"
 pub equal-signed-bytes : (w x : List ℕ) (u v : Values signature) → readRecord signature w ≡ good u → readRecord signature x ≡ good v

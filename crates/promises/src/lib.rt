@@ -1,1 +1,1 @@
-// The promises stand in specs/: theorems over the definitions that the public contracts cite.
+// The promises stand in specs/: theorems over the definitions of the rules.

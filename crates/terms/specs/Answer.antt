@@ -54,7 +54,7 @@ same [] (y ∷ ys) = false
 same (x ∷ xs) [] = false
 same (x ∷ xs) (y ∷ ys) = eqb x y && same xs ys
 
--- An answer in the paper's terms, its number and its values: what was done, found or judged; or a refusal, its place the first value.
+-- An answer in the paper's terms, its number and its values: what was done, found or judged; or a refusal, its place the first value where it has one.
 -- Each enum that is an answer to a caller has a definition into this type.
 pub data Told : Type 0 where
   gives : ℕ → List ℤ → Told

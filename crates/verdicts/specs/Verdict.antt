@@ -53,6 +53,9 @@ pub record Facts : Type 0 where
   pub original : List ℕ  -- the original digest that was found
   pub signer : List ℕ  -- the signer's digest that was found
 
+abbrev pub factsOf : (r : Members) → Values r → Findings → List ℕ → List ℕ → Facts
+factsOf r v f original signer = record { entries = fields r v; found = f; original = original; signer = signer }
+
 -- a field of the record, by its name
 unfoldable pub the : Field → Facts → List ℕ
 the f x = bytesIn (first (isField f 0) (x .entries))
@@ -142,7 +145,7 @@ judged s x = Judged (s .number) (s .carries && makerOut x)
 unfoldable pub weigh : List (Step Facts) → Step Facts → (r : Members) → Res (Values r) → Findings → List ℕ → List ℕ → Verdict
 weigh steps none r (fault n p) f original signer = Refused n p
 weigh steps none r (good v) f original signer =
-    let x : Facts = record { entries = fields r v; found = f; original = original; signer = signer } in
+    let x : Facts = factsOf r v f original signer in
     pick (allReal f) (judged (firstFailing steps none x) x) (Refused unreal-time 0)
 
 unfoldable pub signatureVerdict : List ℕ → Findings → List ℕ → List ℕ → Verdict

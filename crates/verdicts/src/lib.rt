@@ -1,4 +1,5 @@
-// A time is a whole number whose fourteen decimal digits are the date and time.
+// The findings, as plain data. A time in them is a whole number whose fourteen decimal digits are the date and time.
+
 // Never revoked, or revoked at a time.
 pub enum Revocation {
     Never,
@@ -31,6 +32,7 @@ pub enum Stamping {
     Good(u64),
 }
 
+// What was found of the stamp.
 pub struct StampFacts {
     pub state: Stamping,
 }

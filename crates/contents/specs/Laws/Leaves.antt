@@ -1,11 +1,12 @@
 -- A content and its section: each is made of the other. Assumes nothing.
-use mathlib.Core.Path.{_≡_, refl, sym, ap}
+use mathlib.Core.Path.{_≡_, refl}
 use Prim.Native.Nat.{ℕ, _+_, _≤_}
 use native.Mathlib.Omega.{arith}
 use mathlib.Core.Bool.{Bool, true, false}
 use mathlib.Core.Option.{some}
-use mathlib.Core.List.{List, [], _∷_}
+use mathlib.Core.List.{List, [], _∷_, _++_}
 use lib.ListN.{length, drop, length-drop}
+use lib.Seq.{drop-append-seam}
 use lib.Dec.{T, leb, eqb→eq}
 use lib.IntN.{ℤ}
 use Rattle.terms.specs.Answer.{Res, good}
@@ -32,13 +33,13 @@ unfolding passes
 passed fine h = refl
 passed (wrong n x) h = absurd h
 
--- ---- a section that is the content
+-- ---- a section that is the content without its front
 
-pub plain-back : (x c : List ℕ) → some x ≡ some c → c ≡ x
-plain-back x c h = cc
+pub shown-back : (front x c : List ℕ) → some (front ++ x) ≡ some c → drop (length front) c ≡ x
+shown-back front x c h = let q : front ++ x ≡ c = cc in rw (← q) (drop-append-seam front x)
 
-pub plain-near : (c : List ℕ) → length c ≤ 8 + length c
-plain-near c = omega arith
+pub shown-near : (front c : List ℕ) → length (drop (length front) c) ≤ 8 + length c
+shown-near front c = omega (arith, length-drop (length front) c)
 
 -- ---- an integer's
 
@@ -52,9 +53,3 @@ pub bits-there : (c : List ℕ) → bitsRule c ≡ fine → some (0x00 ∷ drop 
 unfolding bitsRule
 bits-there [] h = let z : _≡_ {A = ℕ} 0 1 = cc in let y : ⊥ = omega arith in absurd y
 bits-there (a ∷ c) h = by-ask _ _ _ h λ e g. let q : a ≡ 0 = eqb→eq a 0 e in rw q
-
-pub bits-back : (x c : List ℕ) → some (0x00 ∷ x) ≡ some c → drop 1 c ≡ x
-bits-back x c h = let q : 0x00 ∷ x ≡ c = cc in ap (drop 1) (sym q)
-
-pub bits-near : (c : List ℕ) → length (drop 1 c) ≤ 8 + length c
-bits-near c = omega (arith, length-drop 1 c)

@@ -49,11 +49,11 @@ sheet-begins v = (_, append-assoc (sheets seal (sealOf v)) _ _)
 
 -- ---- signed bytes
 
-signed-signature : (v : Values signature) → signedBytes SignedPart signature v ≡ recordOf signedPart (signedPartOf v)
+pub signed-signature : (v : Values signature) → signedBytes SignedPart signature v ≡ recordOf signedPart (signedPartOf v)
 unfolding signedBytes bytesIn first isField sameName code fields itemFields pick
 signed-signature v = refl
 
-signed-seal : (v : Values seal) → signedBytes SealInformation seal v ≡ recordOf sealInformation (informationOf v)
+pub signed-seal : (v : Values seal) → signedBytes SealInformation seal v ≡ recordOf sealInformation (informationOf v)
 unfolding signedBytes bytesIn first isField sameName code fields itemFields pick
 signed-seal v = refl
 

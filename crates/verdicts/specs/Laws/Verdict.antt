@@ -9,9 +9,8 @@ use Rattle.terms.specs.Numbers.{unreal-time}
 use Rattle.terms.specs.Answer.{good, fault, every}
 use Rattle.terms.specs.Laws.Answer.{test, and-l, and-r, both, pick-yes, pick-no}
 use Rattle.layouts.specs.Layout.{Members, Values}
-use Rattle.layouts.specs.Fields.{fields}
 use Rattle.verdicts.specs.Findings.{allReal}
-use Rattle.verdicts.specs.Verdict.{Step, firstFailing, First, takesNotice, Facts, signatureSteps, signatureValid, sealSteps, sealValid, judged, weigh}
+use Rattle.verdicts.specs.Verdict.{Step, firstFailing, First, takesNotice, Facts, factsOf, signatureSteps, signatureValid, sealSteps, sealValid, judged, weigh}
 use Rattle.verdicts.specs.declared.Findings.{Findings}
 use Rattle.verdicts.specs.declared.Verdict.the-variants.{Refused}
 
@@ -68,9 +67,6 @@ seal-notice x = same-bool-eq _ _ (first-holds (λ s. same-bool (s .carries) fals
 pub weigh-refused : (ss : List (Step Facts)) (none : Step Facts) (r : Members) (n p : ℕ) (f : Findings) (a b : List ℕ) → weigh ss none r (fault n p) f a b ≡ Refused n p
 unfolding weigh
 weigh-refused ss none r n p f a b = refl
-
-abbrev pub factsOf : (r : Members) → Values r → Findings → List ℕ → List ℕ → Facts
-factsOf r v f a b = record { entries = fields r v; found = f; original = a; signer = b }
 
 pub weigh-judged : (ss : List (Step Facts)) (none : Step Facts) (r : Members) (v : Values r) (f : Findings) (a b : List ℕ) → T (allReal f)
     → weigh ss none r (good v) f a b ≡ judged (firstFailing ss none (factsOf r v f a b)) (factsOf r v f a b)
