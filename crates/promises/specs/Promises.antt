@@ -1,5 +1,5 @@
--- What the project promises its user, over the definitions of the rules: the contracts of code cite those that have code. Read this page
--- first. Where a line in quotes follows the word demand, it is one of the three that docs/PROMISES.md begins with. Assumes nothing.
+-- What the project promises its user, over the definitions of the rules. Read this page first. What stands in quotes is from the three
+-- demands, with which docs/PROMISES.md begins, or from document 01. Assumes nothing.
 -- A record is a seal or a signature record: `seal` and `signature` are the layouts of document 01, `v` is a record's field values.
 use mathlib.Core.Path.{_≡_, refl, sym, ap, _∙_, subst}
 use mathlib.Core.Bool.{Bool, false, not, _&&_}
