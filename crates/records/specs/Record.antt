@@ -4,7 +4,7 @@ use Rattle.terms.specs.declared.Field.{Field}
 use Rattle.terms.specs.declared.Field.the-variants.{SealInformation, Header, Vendor, SealId, Property, SealType, SealName, ListKind, CertificateList, ListedCertificate, ListedEntry, ListedName, ListedDigest, Created, Start, End, Picture, PictureType, PictureData, Width, Height, SealCustomData, SealCustomItem, SealCustomId, SealCustomCritical, SealCustomValue, MakerCertificate, SealAlgorithm, SealSignedValue, SignedPart, Seal, SigningTime, OriginalDigest, PropertyText, SignedCustomData, SignedCustomItem, SignedCustomId, SignedCustomCritical, SignedCustomValue, SignerCertificate, SignatureAlgorithm, SignatureValue, Stamp}
 use Rattle.terms.specs.Numbers.{not-allowed, not-es, most-items}
 use Rattle.contents.specs.Content.{Leaf}
-use Rattle.contents.specs.Integer.{value, any, is, isKind, isMillimetres}
+use Rattle.contents.specs.Integer.{any, isKind, isKind1, isMillimetres}
 use Rattle.contents.specs.Rules.{es, four}
 use Rattle.contents.specs.Leaves.{may-be-empty, needs-a-byte, integer, bitString, octetString, identifier, utf8String, printableString, ia5String, generalizedTime}
 use Rattle.layouts.specs.Layout.{Item, leaf, node, list, wrap, Members, end, _▸_, Member, known, one, maybe, flag, choose}
@@ -57,7 +57,7 @@ digests = list sequence one-or-more most-items ListedEntry (node sequence (field
 abbrev pub property : Members
 property =
     field SealType (integer any) ▸ field SealName (utf8String may-be-empty)
-    ▸ choose ListKind (integer isKind) (λ c. is 1 (value c)) CertificateList certificates digests
+    ▸ choose ListKind (integer isKind) isKind1 CertificateList certificates digests
     ▸ field Created generalizedTime ▸ field Start generalizedTime ▸ field End generalizedTime ▸ end
 
 -- "Picture, SEQUENCE: type, IA5String; data, OCTET STRING; width and height in mm, INTEGER 1 to 65,535 (a house bound)."

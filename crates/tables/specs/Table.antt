@@ -3,7 +3,7 @@ use mathlib.Core.List.{List, [], _∷_}
 use Rattle.terms.specs.declared.Field.{Field}
 use Rattle.terms.specs.Numbers.{most-items}
 use Rattle.contents.specs.Content.{Leaf}
-use Rattle.contents.specs.Integer.{value, any, is, isKind, isMillimetres}
+use Rattle.contents.specs.Integer.{any, isKind, isKind1, isMillimetres}
 use Rattle.contents.specs.Leaves as leaves
 use Rattle.contents.specs.Leaves.{may-be-empty, needs-a-byte}
 use Rattle.items.specs.Scan.{tagByte}
@@ -87,7 +87,7 @@ itemOf x (kind.Wrap t y) = wrap (tagByte t) (layoutOf y)
 
 -- the list kind, and the list that it decides on
 abbrev pub kindsOf : Field → Field → Shape → Shape → Part
-kindsOf f g x y = choose f (leafOf form.ListKind) (λ c. is 1 (value c)) g (layoutOf x) (layoutOf y)
+kindsOf f g x y = choose f (leafOf form.ListKind) isKind1 g (layoutOf x) (layoutOf y)
 
 -- a row, member by member
 abbrev pub membersOf : List Member → Members
