@@ -75,7 +75,8 @@ fn print(outcome: Outcome) {
     io::write_all(STDOUT_FILENO, b"\n");
 }
 
-// A record of at most 65,535 bytes and one byte more: what follows that changes no answer.
+// Reads the input into a buffer and prints its line. The buffer has room for the largest record and one byte more; what follows that
+// changes no answer.
 fn main() {
     let mut input = [0u8; 65536];
     let Input::Bytes(n) = fill(&mut input) else {

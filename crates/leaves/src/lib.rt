@@ -13,6 +13,9 @@ ghost use Rattle.layouts.specs.Scan.{ruleAt, leafAt, beginsAt, closeAt};
 ghost use Rattle.tables.specs.Table.{leafOf};
 ghost use Rattle.leaves.specs.Leaf.{wordTag, wordRule, judgedAt, pastOf};
 
+// Bytes left after the last item.
+const LEFT_OVER: u8 = 5;
+
 // A content by the rule of its form.
 fn rule(s: &[u8], f: Form, at: usize, a: usize, z: usize) -> Checked
     ensures { λ r. ⌜ r ≡ checkedAt (leafOf f .rule) (now (s .entry)) at a z ⌝ }
@@ -63,9 +66,6 @@ fn judged(c: Checked, a: usize, z: usize) -> Seen
         Checked::Wrong(number, place) => Seen::Refused(number, place),
     }
 }
-
-// Bytes left after the last item.
-const LEFT_OVER: u8 = 5;
 
 // A primitive item: where its content lies, or the refusal of its head or its content.
 pub fn leaf(s: &[u8], f: Form, at: usize, end: usize) -> Seen

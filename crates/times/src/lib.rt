@@ -30,6 +30,23 @@ const LAST_MINUTE: u64 = 59;
 
 const LAST_SECOND: u64 = 59;
 
+// Where the parts of a time start, its Z last, and how many bytes it has.
+const YEAR: usize = 0;
+
+const MONTH: usize = 4;
+
+const DAY: usize = 6;
+
+const HOUR: usize = 8;
+
+const MINUTE: usize = 10;
+
+const SECOND: usize = 12;
+
+const ZULU: usize = 14;
+
+const TIME_BYTES: usize = 15;
+
 // The days of each month, January first, in a year that is no leap year.
 const MONTHS: [u64; 12] = [31, 28, 31, 30, 31, 30, 31, 31, 30, 31, 30, 31];
 
@@ -81,13 +98,13 @@ fn digit_at(w: &[u8], i: usize) -> Reading
         return Reading::Nothing;
     }
     let b = w[i];
-    if b < 0x30 {
+    if b < b'0' {
         return Reading::Nothing;
     }
-    if 0x39 < b {
+    if b'9' < b {
         return Reading::Nothing;
     }
-    Reading::Number((b - 0x30) as u64)
+    Reading::Number((b - b'0') as u64)
 }
 
 // A number from a least to a most number.
@@ -108,8 +125,7 @@ fn part_at(w: &[u8], i: usize, k: usize, low: u64, high: u64) -> Reading
     let mut n: u64 = 0;
     let mut j = 0;
     while j < k {
-        let d = digit_at(w, i + j);
-        let Reading::Number(x) = d else {
+        let Reading::Number(x) = digit_at(w, i + j) else {
             return Reading::Nothing;
         };
         n = n * 10 + x;
@@ -133,16 +149,13 @@ fn joined(a: u64, b: u64, c: u64) -> u64
 fn date_in(w: &[u8]) -> Reading
     ensures { λ r. ⌜ (r ≡ dateIn (now (w .entry))) × AtMost 99999999 r ⌝ }
 {
-    let y = part_at(w, 0, 4, 0, 9999);
-    let Reading::Number(year) = y else {
+    let Reading::Number(year) = part_at(w, YEAR, 4, 0, 9999) else {
         return Reading::Nothing;
     };
-    let m = part_at(w, 4, 2, 1, LAST_MONTH);
-    let Reading::Number(month) = m else {
+    let Reading::Number(month) = part_at(w, MONTH, 2, 1, LAST_MONTH) else {
         return Reading::Nothing;
     };
-    let d = part_at(w, 6, 2, 1, month_length(year, month));
-    let Reading::Number(day) = d else {
+    let Reading::Number(day) = part_at(w, DAY, 2, 1, month_length(year, month)) else {
         return Reading::Nothing;
     };
     Reading::Number(joined(year, month, day))
@@ -152,26 +165,23 @@ fn date_in(w: &[u8]) -> Reading
 fn closes(w: &[u8]) -> bool
     ensures { λ r. ⌜ r ≡ closing (drop 14 (now (w .entry))) ⌝ }
 {
-    if w.len() <= 14 {
+    if w.len() <= ZULU {
         return false;
     }
-    w[14] == 0x5a
+    w[ZULU] == b'Z'
 }
 
 // What follows the date: hour, minute and second as one number, and the Z.
 fn clock_in(w: &[u8]) -> Reading
     ensures { λ r. ⌜ (r ≡ clockIn (now (w .entry))) × AtMost 99999999 r ⌝ }
 {
-    let h = part_at(w, 8, 2, 0, LAST_HOUR);
-    let Reading::Number(hour) = h else {
+    let Reading::Number(hour) = part_at(w, HOUR, 2, 0, LAST_HOUR) else {
         return Reading::Nothing;
     };
-    let i = part_at(w, 10, 2, 0, LAST_MINUTE);
-    let Reading::Number(minute) = i else {
+    let Reading::Number(minute) = part_at(w, MINUTE, 2, 0, LAST_MINUTE) else {
         return Reading::Nothing;
     };
-    let s = part_at(w, 12, 2, 0, LAST_SECOND);
-    let Reading::Number(second) = s else {
+    let Reading::Number(second) = part_at(w, SECOND, 2, 0, LAST_SECOND) else {
         return Reading::Nothing;
     };
     if !closes(w) {
@@ -184,12 +194,10 @@ fn clock_in(w: &[u8]) -> Reading
 fn time_in(w: &[u8]) -> Reading
     ensures { λ r. ⌜ r ≡ told (timeFrom year-digits (now (w .entry)) 0) ⌝ }
 {
-    let d = date_in(w);
-    let Reading::Number(date) = d else {
+    let Reading::Number(date) = date_in(w) else {
         return Reading::Nothing;
     };
-    let t = clock_in(w);
-    let Reading::Number(clock) = t else {
+    let Reading::Number(clock) = clock_in(w) else {
         return Reading::Nothing;
     };
     Reading::Number(date * 1000000 + clock)
@@ -200,11 +208,10 @@ pub fn time(s: &[u8], at: usize, a: usize, z: usize) -> Checked
     ensures { λ r. ⌜ r ≡ checkedAt timeRule (now (s .entry)) at a z ⌝ }
 {
     let w = windows::window(s, a, z);
-    if 15 < w.len() {
+    if TIME_BYTES < w.len() {
         return Checked::Wrong(BAD_TIME, at);
     }
-    let t = time_in(w);
-    let Reading::Number(_) = t else {
+    let Reading::Number(_) = time_in(w) else {
         return Checked::Wrong(BAD_TIME, at);
     };
     Checked::Fine

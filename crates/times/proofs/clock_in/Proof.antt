@@ -8,8 +8,8 @@ use Rattle.times.proofs.clock_in.Tie as tie
 part-at-requires : tie.Need-part-at-requires
 part-at-requires c κs = search needs
 
-enum-known-h : tie.Need-enum-known-h
-enum-known-h c = search needs
+enum-known-hour : tie.Need-enum-known-hour
+enum-known-hour c = search needs
 
 enum-told : tie.Need-enum-told
 enum-told c = search needs
@@ -21,8 +21,8 @@ returns c = (search (needs, steps) depth 12, tt)
 part-at-requires-2 : tie.Need-part-at-requires-2
 part-at-requires-2 c κs = search needs
 
-enum-known-i : tie.Need-enum-known-i
-enum-known-i c = search needs
+enum-known-minute : tie.Need-enum-known-minute
+enum-known-minute c = search needs
 
 enum-told-2 : tie.Need-enum-told-2
 enum-told-2 c = search needs
@@ -34,8 +34,8 @@ returns-2 c = (search (needs, steps) depth 12, tt)
 part-at-requires-3 : tie.Need-part-at-requires-3
 part-at-requires-3 c κs = search needs
 
-enum-known-s : tie.Need-enum-known-s
-enum-known-s c = search needs
+enum-known-second : tie.Need-enum-known-second
+enum-known-second c = search needs
 
 enum-told-3 : tie.Need-enum-told-3
 enum-told-3 c = search needs
@@ -63,15 +63,15 @@ clock-in-spec =
     tie.close
     (tie.spec
     part-at-requires
-    enum-known-h
+    enum-known-hour
     enum-told
     returns
     part-at-requires-2
-    enum-known-i
+    enum-known-minute
     enum-told-2
     returns-2
     part-at-requires-3
-    enum-known-s
+    enum-known-second
     enum-told-3
     returns-3
     closes-requires

@@ -9,8 +9,8 @@ use Rattle.times.proofs.date_in.Tie as tie
 part-at-requires : tie.Need-part-at-requires
 part-at-requires c κs = search needs
 
-enum-known-y : tie.Need-enum-known-y
-enum-known-y c = search needs
+enum-known-year : tie.Need-enum-known-year
+enum-known-year c = search needs
 
 enum-told : tie.Need-enum-told
 enum-told c = search needs
@@ -22,8 +22,8 @@ returns c = (search (needs, steps) depth 12, tt)
 part-at-requires-2 : tie.Need-part-at-requires-2
 part-at-requires-2 c κs = search needs
 
-enum-known-m : tie.Need-enum-known-m
-enum-known-m c = search needs
+enum-known-month : tie.Need-enum-known-month
+enum-known-month c = search needs
 
 enum-told-2 : tie.Need-enum-told-2
 enum-told-2 c = search needs
@@ -38,8 +38,8 @@ month-length-requires c κs = search needs
 part-at-requires-3 : tie.Need-part-at-requires-3
 part-at-requires-3 c κs = search needs
 
-enum-known-d : tie.Need-enum-known-d
-enum-known-d c = search needs
+enum-known-day : tie.Need-enum-known-day
+enum-known-day c = search needs
 
 enum-told-3 : tie.Need-enum-told-3
 enum-told-3 c = search needs
@@ -60,16 +60,16 @@ date-in-spec =
     tie.close
     (tie.spec
     part-at-requires
-    enum-known-y
+    enum-known-year
     enum-told
     returns
     part-at-requires-2
-    enum-known-m
+    enum-known-month
     enum-told-2
     returns-2
     month-length-requires
     part-at-requires-3
-    enum-known-d
+    enum-known-day
     enum-told-3
     returns-3
     joined-requires

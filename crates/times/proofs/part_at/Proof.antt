@@ -21,8 +21,8 @@ add-digit-at c = search needs
 digit-at-requires : tie.Need-digit-at-requires Inv-loop μ-loop
 digit-at-requires c κs = search needs
 
-enum-known-d : tie.Need-enum-known-d Inv-loop μ-loop
-enum-known-d c = search needs
+enum-known-x : tie.Need-enum-known-x Inv-loop μ-loop
+enum-known-x c = search needs
 
 enum-told : tie.Need-enum-told Inv-loop μ-loop
 enum-told c = search needs
@@ -34,7 +34,7 @@ mul-n : tie.Need-mul-n Inv-loop μ-loop
 mul-n c = omega (arith, room (c .before .before .before .before .before .loop .inv) (omega arith) (omega arith))
 
 add-n : tie.Need-add-n Inv-loop μ-loop
-add-n c = omega (arith, room (c .before .before .before .before .before .loop .inv) (omega arith) (omega arith), at-most (c .before .before .before .digit-at .ensures .1) (c .before .d .given .1))
+add-n c = omega (arith, room (c .before .before .before .before .before .loop .inv) (omega arith) (omega arith), at-most (c .before .before .before .digit-at .ensures .1) (c .before .x .given .1))
 
 add-j : tie.Need-add-j Inv-loop μ-loop
 add-j c = search needs
@@ -63,7 +63,7 @@ part-at-spec =
     loop-holds
     add-digit-at
     digit-at-requires
-    enum-known-d
+    enum-known-x
     enum-told
     returns
     mul-n

@@ -9,8 +9,8 @@ use Rattle.times.proofs.time_in.Tie as tie
 date-in-requires : tie.Need-date-in-requires
 date-in-requires c κs = search needs
 
-enum-known-d : tie.Need-enum-known-d
-enum-known-d c = search needs
+enum-known-date : tie.Need-enum-known-date
+enum-known-date c = search needs
 
 enum-told : tie.Need-enum-told
 enum-told c = search needs
@@ -22,8 +22,8 @@ returns c = search (needs, as-read, steps) depth 12
 clock-in-requires : tie.Need-clock-in-requires
 clock-in-requires c κs = search needs
 
-enum-known-t : tie.Need-enum-known-t
-enum-known-t c = search needs
+enum-known-clock : tie.Need-enum-known-clock
+enum-known-clock c = search needs
 
 enum-told-2 : tie.Need-enum-told-2
 enum-told-2 c = search needs
@@ -33,10 +33,10 @@ unfolding timeIn
 returns-2 c = search (needs, as-read, steps) depth 12
 
 mul-t6 : tie.Need-mul-t6
-mul-t6 c = omega (arith, at-most (c .before .before .before .before .before .before .before .date-in .ensures .1) (c .before .before .before .before .before .d .given .1))
+mul-t6 c = omega (arith, at-most (c .before .before .before .before .before .before .before .date-in .ensures .1) (c .before .before .before .before .before .date .given .1))
 
 add-t7 : tie.Need-add-t7
-add-t7 c = omega (arith, at-most (c .before .before .before .before .before .before .before .date-in .ensures .1) (c .before .before .before .before .before .d .given .1), at-most (c .before .before .before .clock-in .ensures .1) (c .before .t .given .1))
+add-t7 c = omega (arith, at-most (c .before .before .before .before .before .before .before .date-in .ensures .1) (c .before .before .before .before .before .date .given .1), at-most (c .before .before .before .clock-in .ensures .1) (c .before .clock .given .1))
 
 returns-3 : tie.Need-returns-3
 unfolding timeIn
@@ -47,11 +47,11 @@ time-in-spec =
     tie.close
     (tie.spec
     date-in-requires
-    enum-known-d
+    enum-known-date
     enum-told
     returns
     clock-in-requires
-    enum-known-t
+    enum-known-clock
     enum-told-2
     returns-2
     mul-t6
