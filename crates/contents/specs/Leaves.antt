@@ -7,11 +7,12 @@ use mathlib.Core.List.{List, [], _∷_, _++_}
 use Prim.Native.Nat.{ℕ}
 use lib.ListN.{length, drop}
 use lib.IntN.{ℤ}
+use Rattle.terms.specs.Numbers.{not-allowed, not-es}
 use Rattle.contents.specs.Content.{Check, fine, Leaf}
-use Rattle.contents.specs.Integer.{stretch, unstretch}
+use Rattle.contents.specs.Integer.{stretch, unstretch, any}
 use Rattle.contents.specs.Text as Text
 use Rattle.contents.specs.Time.{timeRule}
-use Rattle.contents.specs.Rules.{integerRule, stringRule, octetsRule, bitsRule, identifierRule, booleanRule}
+use Rattle.contents.specs.Rules.{integerRule, stringRule, octetsRule, bitsRule, identifierRule, booleanRule, onlyRule, es, four}
 use Rattle.contents.specs.Laws.Leaves.{shown-back, shown-near, integer-there, bits-there}
 use Rattle.contents.specs.Laws.Integer.{stretch-back, stretch-near}
 
@@ -57,3 +58,20 @@ generalizedTime = plain 0x18 timeRule
 -- "critical, BOOLEAN"
 abbrev pub boolean : Leaf
 boolean = plain 0x01 booleanRule
+
+-- a primitive item that has one content only, and the number that any other is refused with, after its own rule
+pub record Known : Type 0 where
+  pub leaf : Leaf
+  pub content : List ℕ
+  pub other : ℕ
+
+abbrev pub knownRule : Known → List ℕ → Check
+knownRule k c = onlyRule (k .leaf .rule) (k .content) (k .other) c
+
+-- "IA5String "ES"": 14, 9, then 8
+abbrev pub headerName : Known
+headerName = record { leaf = ia5String needs-a-byte; content = es; other = not-es }
+
+-- "INTEGER 4": 6, then 7
+abbrev pub version : Known
+version = record { leaf = integer any; content = four; other = not-allowed }

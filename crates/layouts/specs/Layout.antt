@@ -12,7 +12,7 @@ use Rattle.terms.specs.Answer.{enough}
 use Rattle.heads.specs.Head.{tlv}
 use Rattle.contents.specs.Content.{Leaf, fine}
 use Rattle.contents.specs.Rules.{yes-byte}
-use Rattle.contents.specs.Leaves.{boolean}
+use Rattle.contents.specs.Leaves.{boolean, Known}
 
 infixr 20 _▸_
 -- ---- a layout
@@ -29,7 +29,7 @@ mutual
     _▸_ : Member → Members → Members
 
   pub data Member : Type 0 where
-    known : Leaf → List ℕ → ℕ → Member  -- its only content, and the refusal of another
+    known : Known → Member
     one : Field → Item → Member
     maybe : Field → Item → Member  -- optional
     flag : Field → Member  -- a BOOLEAN, FALSE by default
@@ -56,7 +56,7 @@ abbrev mutual
   Values (m ▸ r) = Part m × Values r
 
   pub Part : Member → Type 0
-  Part (known l c n) = Unit {0}
+  Part (known w) = Unit {0}
   Part (one f i) = Value i
   Part (maybe f i) = Option (Value i)
   Part (flag f) = Bool
@@ -89,7 +89,7 @@ abbrev mutual
   Oks (m ▸ r) v = OkPart m (v .0) × Oks r (v .1)
 
   pub OkPart : (m : Member) → Part m → Type 0
-  OkPart (known l c n) v = Unit {0}
+  OkPart (known w) v = Unit {0}
   OkPart (one f i) v = Ok i v
   OkPart (maybe f i) v = InOption (λ x. Ok i x) v
   OkPart (flag f) v = Unit {0}
@@ -126,7 +126,7 @@ unfoldable mutual
   encodes (m ▸ r) v = encodePart m (v .0) ++ encodes r (v .1)
 
   pub encodePart : (m : Member) → Part m → List ℕ
-  encodePart (known l c n) v = tlv (l .tag) c
+  encodePart (known w) v = tlv (w .leaf .tag) (w .content)
   encodePart (one f i) v = encode i v
   encodePart (maybe f i) v = option (λ x. encode i x) v
   encodePart (flag f) v = critical v

@@ -86,7 +86,7 @@ unfoldable mutual
   marksAll (m ▸ r) k s p e d = afterStep (scanPart m s p e) (marksPart m k s p e d) λ q. marksAll r k s q e (marksPart m k s p e d)
 
   pub marksPart : Member → ℕ → List ℕ → ℕ → ℕ → List ℕ → List ℕ
-  marksPart (known l c n) k s p e d = d
+  marksPart (known w) k s p e d = d
   marksPart (one f i) k s p e d = marks i f k s p e d
   marksPart (maybe f i) k s p e d = pick (beginsAt (tagOf i) s p e) (marks i f k s p e d) d
   marksPart (flag f) k s p e d = pick (beginsAt (boolean .tag) s p e) (leafMarks boolean f k s p e d) d

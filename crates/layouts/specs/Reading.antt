@@ -11,8 +11,7 @@ use Rattle.terms.specs.Numbers.{left-over, no-item, too-many-items}
 use Rattle.terms.specs.Answer.{Res, good, fault, Got, pick, bind, need, enough}
 use Rattle.heads.specs.Head.{Cut, head}
 use Rattle.contents.specs.Content.{Check, Leaf, judge}
-use Rattle.contents.specs.Rules.{onlyRule}
-use Rattle.contents.specs.Leaves.{boolean}
+use Rattle.contents.specs.Leaves.{boolean, knownRule}
 use Rattle.layouts.specs.Layout.{Item, leaf, node, list, wrap, Members, end, _▸_, Member, known, one, maybe, flag, choose, tagOf, Value, Values, Part}
 
 -- where what follows an item starts
@@ -68,7 +67,7 @@ unfoldable mutual
   reads (m ▸ r) w b = bind (readPart m w b) λ a. bind (reads r (a .1) (a .2)) λ v. good (a .0, v)
 
   pub readPart : (m : Member) → List ℕ → ℕ → Res (Got (Part m))
-  readPart (known l k n) w b = bind (readBy (l .tag) (onlyRule (l .rule) k n) w b) λ c. good (tt, c .1, next c)
+  readPart (known k) w b = bind (readBy (k .leaf .tag) (knownRule k) w b) λ c. good (tt, c .1, next c)
   readPart (one f i) w b = read i w b
   readPart (maybe f i) w b = readOption (tagOf i) (λ x p. read i x p) w b
   readPart (flag f) w b = readFlag w b

@@ -14,8 +14,7 @@ use Rattle.heads.specs.declared.Seen.the-variants.{Item as At, Refused as Bad}
 use Rattle.heads.specs.declared.Step.{Step}
 use Rattle.heads.specs.declared.Step.the-variants.{Next, Refused}
 use Rattle.contents.specs.Content.{Check, fine, wrong, Leaf, placeOf}
-use Rattle.contents.specs.Rules.{onlyRule}
-use Rattle.contents.specs.Leaves.{boolean}
+use Rattle.contents.specs.Leaves.{boolean, knownRule}
 use Rattle.layouts.specs.Layout.{Item, leaf, node, list, wrap, Members, end, _▸_, Member, known, one, maybe, flag, choose, tagOf}
 use Rattle.layouts.specs.Whole.{sequence}
 
@@ -63,7 +62,7 @@ unfoldable mutual
   scans (m ▸ r) s p e = thenStep (scanPart m s p e) λ q. scans r s q e
 
   pub scanPart : Member → List ℕ → ℕ → ℕ → Step
-  scanPart (known l k n) s p e = thenSeen (ruleAt (l .tag) (onlyRule (l .rule) k n) s p e) λ a z. Next z
+  scanPart (known k) s p e = thenSeen (ruleAt (k .leaf .tag) (knownRule k) s p e) λ a z. Next z
   scanPart (one f i) s p e = scan i s p e
   scanPart (maybe f i) s p e = pick (beginsAt (tagOf i) s p e) (scan i s p e) (Next p)
   scanPart (flag f) s p e = pick (beginsAt (boolean .tag) s p e) (thenSeen (leafAt boolean s p e) λ a z. Next z) (Next p)

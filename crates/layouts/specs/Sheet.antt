@@ -51,7 +51,7 @@ unfoldable mutual
   sheets (m ▸ r) v = sheetPart m (v .0) ++ sheets r (v .1)
 
   pub sheetPart : (m : Member) → Part m → List ℕ
-  sheetPart (known l c n) v = []
+  sheetPart (known k) v = []
   sheetPart (one f i) v = sheet i v
   sheetPart (maybe f i) v = sheetOption (λ x. sheet i x) v
   sheetPart (flag f) v = section (bit v)
@@ -103,7 +103,7 @@ unfoldable mutual
   fills (m ▸ r) w p = bind (fillPart m w p) λ a. bind (fills r (a .1) (a .2)) λ v. good ((a .0, v .0), v .1, v .2)
 
   pub fillPart : (m : Member) → List ℕ → ℕ → Res (Got (Part m))
-  fillPart (known l k n) w p = good (tt, w, p)
+  fillPart (known k) w p = good (tt, w, p)
   fillPart (one f i) w p = fill i w p
   fillPart (maybe f i) w p = fillOption (λ x q. fill i x q) w p
   fillPart (flag f) w p = fillFlag w p

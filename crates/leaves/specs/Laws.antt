@@ -15,6 +15,7 @@ use Rattle.heads.specs.declared.Seen.the-variants.{Item, Refused as Bad}
 use Rattle.heads.specs.declared.Step.the-variants.{Next, Refused}
 use Rattle.contents.specs.Content.{Check, fine, wrong}
 use Rattle.contents.specs.Rules.{headerNameRule, versionRule}
+use Rattle.contents.specs.Leaves.{knownRule}
 use Rattle.contents.specs.Scan.{checked, checkedAt}
 use Rattle.contents.specs.declared.Checked.{Checked}
 use Rattle.contents.specs.declared.Checked.the-variants.{Fine, Wrong}
@@ -23,10 +24,10 @@ use Rattle.items.specs.declared.Tag.the-variants as tag
 use Rattle.items.specs.Scan.{tagByte}
 use Rattle.layouts.specs.Scan.{judgeAt, ruleAt, beginsAt, closeAt}
 use Rattle.tables.specs.declared.Form.{Form}
-use Rattle.tables.specs.Table.{leafOf}
+use Rattle.tables.specs.Table.{leafOf, knownOf}
 use Rattle.tables.specs.declared.Word.{Word}
 use Rattle.tables.specs.declared.Word.the-variants as word
-use Rattle.leaves.specs.Leaf.{wordRule, judgedAt, pastOf}
+use Rattle.leaves.specs.Leaf.{judgedAt, pastOf}
 
 -- ---- a head, then a rule
 
@@ -46,11 +47,11 @@ module _ (t : ℕ) (rule : List ℕ → Check) (s : List ℕ) (p e : ℕ) (u : T
 -- ---- the known members
 
 module _ (s : List ℕ) (p a z : ℕ) (y : Checked) (w : Word) where
-  pub es-rule : w ≡ word.Es → y ≡ checkedAt headerNameRule s p a z → y ≡ checkedAt (wordRule w) s p a z
+  pub es-rule : w ≡ word.Es → y ≡ checkedAt headerNameRule s p a z → y ≡ checkedAt (knownRule (knownOf w)) s p a z
   unfolding headerNameRule checkedAt
   es-rule i h = rw i h
 
-  pub four-rule : w ≡ word.Four → y ≡ checkedAt versionRule s p a z → y ≡ checkedAt (wordRule w) s p a z
+  pub four-rule : w ≡ word.Four → y ≡ checkedAt versionRule s p a z → y ≡ checkedAt (knownRule (knownOf w)) s p a z
   unfolding versionRule checkedAt
   four-rule i h = rw i h
 

@@ -7,11 +7,12 @@ use items::Tag;
 use tables::Form;
 use tables::Word;
 ghost use mathlib.Core.Path.{_≡_};
+ghost use Rattle.contents.specs.Leaves.{knownRule};
 ghost use Rattle.contents.specs.Scan.{checkedAt};
 ghost use Rattle.items.specs.Scan.{tagByte};
 ghost use Rattle.layouts.specs.Scan.{ruleAt, leafAt, beginsAt, closeAt};
-ghost use Rattle.tables.specs.Table.{leafOf};
-ghost use Rattle.leaves.specs.Leaf.{wordTag, wordRule, judgedAt, pastOf};
+ghost use Rattle.tables.specs.Table.{leafOf, knownOf};
+ghost use Rattle.leaves.specs.Leaf.{judgedAt, pastOf};
 
 // Bytes left after the last item.
 const LEFT_OVER: u8 = 5;
@@ -39,7 +40,7 @@ fn rule(s: &[u8], f: Form, at: usize, a: usize, z: usize) -> Checked
 
 // The tag of a known member.
 fn word_tag(w: Word) -> Tag
-    ensures { λ r. ⌜ tagByte r ≡ wordTag w ⌝ }
+    ensures { λ r. ⌜ tagByte r ≡ knownOf w .leaf .tag ⌝ }
 {
     match w {
         Word::Es => Tag::Ia5String,
@@ -49,7 +50,7 @@ fn word_tag(w: Word) -> Tag
 
 // The content of a known member by its rule.
 fn word_rule(s: &[u8], w: Word, at: usize, a: usize, z: usize) -> Checked
-    ensures { λ r. ⌜ r ≡ checkedAt (wordRule w) (now (s .entry)) at a z ⌝ }
+    ensures { λ r. ⌜ r ≡ checkedAt (knownRule (knownOf w)) (now (s .entry)) at a z ⌝ }
 {
     match w {
         Word::Es => texts::header_name(s, at, a, z),
@@ -80,7 +81,7 @@ pub fn leaf(s: &[u8], f: Form, at: usize, end: usize) -> Seen
 
 // A member whose content is known.
 pub fn known(s: &[u8], w: Word, at: usize, end: usize) -> Seen
-    ensures { λ r. ⌜ r ≡ ruleAt (wordTag w) (wordRule w) (now (s .entry)) at end ⌝ }
+    ensures { λ r. ⌜ r ≡ ruleAt (knownOf w .leaf .tag) (knownRule (knownOf w)) (now (s .entry)) at end ⌝ }
 {
     let h = items::head(s, word_tag(w), at, end);
     let Seen::Item(a, z) = h else {

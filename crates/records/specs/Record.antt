@@ -2,11 +2,10 @@
 use mathlib.Core.Bool.{Bool, true, false}
 use Rattle.terms.specs.declared.Field.{Field}
 use Rattle.terms.specs.declared.Field.the-variants.{SealInformation, Header, Vendor, SealId, Property, SealType, SealName, ListKind, CertificateList, ListedCertificate, ListedEntry, ListedName, ListedDigest, Created, Start, End, Picture, PictureType, PictureData, Width, Height, SealCustomData, SealCustomItem, SealCustomId, SealCustomCritical, SealCustomValue, MakerCertificate, SealAlgorithm, SealSignedValue, SignedPart, Seal, SigningTime, OriginalDigest, PropertyText, SignedCustomData, SignedCustomItem, SignedCustomId, SignedCustomCritical, SignedCustomValue, SignerCertificate, SignatureAlgorithm, SignatureValue, Stamp}
-use Rattle.terms.specs.Numbers.{not-allowed, not-es, most-items}
+use Rattle.terms.specs.Numbers.{most-items}
 use Rattle.contents.specs.Content.{Leaf}
 use Rattle.contents.specs.Integer.{any, isKind, isKind1, isMillimetres}
-use Rattle.contents.specs.Rules.{es, four}
-use Rattle.contents.specs.Leaves.{may-be-empty, needs-a-byte, integer, bitString, octetString, identifier, utf8String, printableString, ia5String, generalizedTime}
+use Rattle.contents.specs.Leaves.{may-be-empty, needs-a-byte, integer, bitString, octetString, identifier, utf8String, printableString, ia5String, generalizedTime, headerName, version}
 use Rattle.layouts.specs.Layout.{Item, leaf, node, list, wrap, Members, end, _▸_, Member, known, one, maybe, flag, choose}
 use Rattle.layouts.specs.Whole.{sequence}
 
@@ -27,10 +26,6 @@ one-or-more = false
 abbrev none-or-more : Bool
 none-or-more = true
 
--- "INTEGER 4"
-abbrev pub version : Member
-version = known (integer any) four not-allowed
-
 -- "[0] is explicit: A0 around one whole item."
 abbrev pub tagged-0 : Item → Item
 tagged-0 i = wrap 0xA0 i
@@ -38,11 +33,8 @@ tagged-0 i = wrap 0xA0 i
 -- ---- the seal
 
 -- "Header, SEQUENCE: IA5String "ES"; INTEGER 4; vendor, IA5String."
-abbrev pub name : Member
-name = known (ia5String needs-a-byte) es not-es
-
 abbrev pub header : Members
-header = name ▸ version ▸ field Vendor (ia5String may-be-empty) ▸ end
+header = known headerName ▸ known version ▸ field Vendor (ia5String may-be-empty) ▸ end
 
 -- "Certificate list, SEQUENCE of 1 to 64 items. Kind 1: each a certificate, OCTET STRING."
 abbrev pub certificates : Item
@@ -94,7 +86,7 @@ seal = part SealInformation sealInformation ▸ field MakerCertificate (octetStr
 -- custom data, [0], optional."
 abbrev pub signedPart : Members
 signedPart =
-    version ▸ part Seal seal ▸ field SigningTime generalizedTime ▸ field OriginalDigest bitString ▸ field PropertyText (ia5String needs-a-byte)
+    known version ▸ part Seal seal ▸ field SigningTime generalizedTime ▸ field OriginalDigest bitString ▸ field PropertyText (ia5String needs-a-byte)
     ▸ maybe SignedCustomData (tagged-0 signedCustomData) ▸ end
 
 -- "Signature record, SEQUENCE: signed part; signer certificate, OCTET STRING; algorithm; signature, BIT STRING; stamp, [0] BIT STRING, optional."

@@ -7,7 +7,7 @@ use Rattle.contents.specs.Integer.{any, isKind, isKind1, isMillimetres}
 use Rattle.contents.specs.Leaves as leaves
 use Rattle.contents.specs.Leaves.{may-be-empty, needs-a-byte}
 use Rattle.items.specs.Scan.{tagByte}
-use Rattle.layouts.specs.Layout.{Item, leaf, node, list, wrap, Members, end, _▸_, Member as Part, one, maybe, flag, choose}
+use Rattle.layouts.specs.Layout.{Item, leaf, node, list, wrap, Members, end, _▸_, Member as Part, known, one, maybe, flag, choose}
 use Rattle.layouts.specs.Whole.{sequence}
 use Rattle.records.specs.Record as rules
 use Rattle.tables.specs.declared.Form.{Form}
@@ -36,9 +36,9 @@ leafOf form.ListKind = leaves.integer isKind
 leafOf form.Millimetres = leaves.integer isMillimetres
 leafOf form.Critical = leaves.boolean
 
-abbrev pub knownOf : Word → Part
-knownOf word.Es = rules.name
-knownOf word.Four = rules.version
+abbrev pub knownOf : Word → leaves.Known
+knownOf word.Es = leaves.headerName
+knownOf word.Four = leaves.version
 
 -- an item of a list
 abbrev itemIn : Item → Item
@@ -93,7 +93,7 @@ kindsOf f g x y = choose f (leafOf form.ListKind) isKind1 g (layoutOf x) (layout
 abbrev pub membersOf : List Member → Members
 membersOf [] = end
 membersOf (member.Blank ∷ ms) = membersOf ms
-membersOf (member.Known w ∷ ms) = knownOf w ▸ membersOf ms
+membersOf (member.Known w ∷ ms) = known (knownOf w) ▸ membersOf ms
 membersOf (member.Leaf f l ∷ ms) = one f (leaf (leafOf l)) ▸ membersOf ms
 membersOf (member.Part f x ∷ ms) = one f (layoutOf x) ▸ membersOf ms
 membersOf (member.Maybe f x ∷ ms) = maybe f (layoutOf x) ▸ membersOf ms

@@ -23,13 +23,14 @@ use Rattle.items.specs.declared.Tag.{Tag}
 use Rattle.items.specs.declared.Tag.the-variants as tag
 use Rattle.items.specs.Scan.{tagByte}
 use Rattle.contents.specs.Content.{Check, fine, wrong, ask}
-use Rattle.contents.specs.Integer.{wellFormed, value, is, isKind}
+use Rattle.contents.specs.Integer.{wellFormed, isKind, isKind1}
 use Rattle.contents.specs.Rules.{integerRule}
+use Rattle.contents.specs.Leaves.{knownRule}
 use Rattle.integers.specs.Number.{isOne}
 use Rattle.layouts.specs.Layout.{Item, leaf, node, list, wrap, Members, end, _▸_, Member as Part, known, one, maybe, flag, choose, tagOf}
-use Rattle.layouts.specs.Scan.{thenSeen, thenStep, thenJudge, judgeAt, ruleAt, leafAt, beginsAt, closeAt, scanMany, scan, scanPart, recordScan}
+use Rattle.layouts.specs.Scan.{thenSeen, thenStep, thenJudge, judgeAt, ruleAt, leafAt, beginsAt, closeAt, scanMany, scan, recordScan}
 use Rattle.layouts.specs.Whole.{sequence}
-use Rattle.leaves.specs.Leaf.{wordTag, wordRule, pastOf}
+use Rattle.leaves.specs.Leaf.{pastOf}
 use Rattle.tables.specs.declared.Form.{Form}
 use Rattle.tables.specs.declared.Form.the-variants as form
 use Rattle.tables.specs.declared.Word.{Word}
@@ -59,7 +60,7 @@ unfoldable mutual
   sizes (m ▸ r) = sizePart m + sizes r
 
   pub sizePart : Part → ℕ
-  sizePart (known l k n) = 0
+  sizePart (known k) = 0
   sizePart (one f i) = suc (size i)
   sizePart (maybe f i) = suc (size i)
   sizePart (flag f) = 0
@@ -273,14 +274,9 @@ fine-well c h = go (wellFormed c) _ h
     go false k g = let y : _≡_ {A = ℕ} 0 1 = cc in let f : ⊥ = omega arith in absurd f
 
 -- a kind that was taken is 1 just where its number is
-one-is : (s : List ℕ) (p e a z : ℕ) (h : Seen) → h ≡ leafAt (leafOf form.ListKind) s p e → h ≡ At a z → isOne (slice a z s) ≡ is 1 (value (slice a z s))
+one-is : (s : List ℕ) (p e a z : ℕ) (h : Seen) → h ≡ leafAt (leafOf form.ListKind) s p e → h ≡ At a z → isOne (slice a z s) ≡ isKind1 (slice a z s)
 unfolding isOne
 one-is s p e a z h j b = rw (fine-well (slice a z s) (rule-taken 0x02 (integerRule isKind) s p e a z (sym j ∙ b) .1))
-
-known-word : (w : Word) (s : List ℕ) (p e : ℕ) → scanPart (knownOf w) s p e ≡ thenSeen (ruleAt (wordTag w) (wordRule w) s p e) λ a z. Next z
-unfolding scan
-known-word word.Es s p e = refl
-known-word word.Four s p e = refl
 
 module _ (m : Member) (n : ℕ) (s : List ℕ) (p e : ℕ) (d : List ℕ) where
   abbrev ReadsPart : Step → List ℕ → Type 0
@@ -290,9 +286,9 @@ module _ (m : Member) (n : ℕ) (s : List ℕ) (p e : ℕ) (d : List ℕ) where
   unfolding memberWalk
   member-blank i = rw i refl
 
-  pub member-known : (w : Word) (h : Seen) (y : Step) → m ≡ member.Known w → h ≡ ruleAt (wordTag w) (wordRule w) s p e → y ≡ pastOf h → ReadsPart y d
-  unfolding memberWalk
-  member-known w h y i j g = rw i (both (g ∙ passed h ∙ ap (λ (x : Seen). thenSeen x λ a z. Next z) j ∙ sym (known-word w s p e)) refl)
+  pub member-known : (w : Word) (h : Seen) (y : Step) → m ≡ member.Known w → h ≡ ruleAt (knownOf w .leaf .tag) (knownRule (knownOf w)) s p e → y ≡ pastOf h → ReadsPart y d
+  unfolding memberWalk scan
+  member-known w h y i j g = rw i (both (g ∙ passed h ∙ ap (λ (x : Seen). thenSeen x λ a z. Next z) j) refl)
 
   pub member-leaf : (f : Field) (l : Form) (y : Step) (d′ : List ℕ) → m ≡ member.Leaf f l → (y, d′) ≡ itemWalk (leaf (leafOf l)) f n s p e d → ReadsPart y d′
   unfolding memberWalk

@@ -12,7 +12,7 @@ use Rattle.heads.specs.declared.Seen.{Seen}
 use Rattle.heads.specs.declared.Seen.the-variants.{Item as At, Refused as Bad}
 use Rattle.heads.specs.declared.Step.{Step}
 use Rattle.heads.specs.declared.Step.the-variants.{Next}
-use Rattle.layouts.specs.Layout.{Item, leaf, Members, Member as Part, maybe, flag}
+use Rattle.layouts.specs.Layout.{Item, leaf, Members, Member as Part, known, maybe, flag}
 use Rattle.layouts.specs.Scan.{thenJudge, scan, scans, scanPart, recordScan}
 use Rattle.layouts.specs.Marks.{tally, manyMarks, marks, marksAll, marksPart, recordMarks}
 use Rattle.layouts.specs.declared.Tally.{Tally}
@@ -33,7 +33,7 @@ rowWalk r k s p e d = (scans r s p e, marksAll r k s p e d)
 -- a member of a row
 unfoldable pub memberWalk : Member → ℕ → List ℕ → ℕ → ℕ → List ℕ → Step × List ℕ
 memberWalk member.Blank k s p e d = (Next p, d)
-memberWalk (member.Known w) k s p e d = (scanPart (knownOf w) s p e, d)
+memberWalk (member.Known w) k s p e d = (scanPart (known (knownOf w)) s p e, d)
 memberWalk (member.Leaf f l) k s p e d = itemWalk (leaf (leafOf l)) f k s p e d
 memberWalk (member.Part f x) k s p e d = itemWalk (layoutOf x) f k s p e d
 memberWalk (member.Maybe f x) k s p e d = (scanPart (maybe f (layoutOf x)) s p e, marksPart (maybe f (layoutOf x)) k s p e d)

@@ -131,7 +131,7 @@ module _ (s : List ℕ) where
 
     -- so does a member
     pub marksPart-read : (m : Member) (k p e : ℕ) → p ≤ e → e ≤ length s → (x : Got (Part m)) → readPart m (slice p e s) p ≡ good x → (d : List ℕ) → marksPart m k s p e d ≡ notes (partFields m k (x .0) p) d
-    marksPart-read (known l c n) k p e pe es x h d = refl
+    marksPart-read (known w) k p e pe es x h d = refl
     marksPart-read (one f i) k p e pe es x h d = marks-read i f k p e pe es x h d
     marksPart-read (maybe f i) k p e pe es x h d =
         rw (begins-agree s (tagOf i) p e pe es)

@@ -13,8 +13,8 @@ use Rattle.terms.specs.Answer.{Res, good, Got, pick, bind, need, enough, same}
 use Rattle.terms.specs.Laws.Answer.{clash, good-inj, test, and-l, and-r, is-true, is-false, pick-yes, pick-no, by-bind, by-need, same-eq, same-refl}
 use Rattle.heads.specs.Head.{Cut, tlv, octets, before, unspelled}
 use Rattle.heads.specs.Laws.Head.{head-tlv, head-back, length-tlv}
-use Rattle.contents.specs.Content.{Check, fine, wrong, ask, judge, passes}
-use Rattle.contents.specs.Leaves.{boolean}
+use Rattle.contents.specs.Content.{Leaf, Check, fine, wrong, ask, judge, passes}
+use Rattle.contents.specs.Leaves.{boolean, knownRule}
 use Rattle.contents.specs.Rules.{yes-byte, booleanRule, also, onlyRule}
 use Rattle.contents.specs.Laws.Leaves.{by-judge, by-ask, passed}
 use Rattle.layouts.specs.Layout.{Item, leaf, node, list, wrap, Members, end, _▸_, Member, known, one, maybe, flag, choose, tagOf, Value, Values, Part, All, InOption, InEither, Ok, Oks, OkPart, each, option, either, critical, encode, encodes, encodePart}
@@ -25,7 +25,7 @@ use Rattle.layouts.specs.Reading.{next, readBy, begins, finish, many, re
 -- no value of the run begins with the tag
 unfoldable pub apart : ℕ → Members → Bool
 apart t end = true
-apart t (known l c n ▸ r) = not (eqb (l .tag) t)
+apart t (known w ▸ r) = not (eqb (w .leaf .tag) t)
 apart t (one f i ▸ r) = not (eqb (tagOf i) t)
 apart t (maybe f i ▸ r) = not (eqb (tagOf i) t) && apart t r
 apart t (flag f ▸ r) = not (eqb (boolean .tag) t) && apart t r
@@ -33,7 +33,7 @@ apart t (choose f l g h i j ▸ r) = not (eqb (l .tag) t)
 
 -- what may be missing is told from what follows it
 unfoldable pub tells : Member → Members → Bool
-tells (known l c n) r = true
+tells (known w) r = true
 tells (one f i) r = true
 tells (maybe f i) r = apart (tagOf i) r
 tells (flag f) r = apart (boolean .tag) r
@@ -42,7 +42,7 @@ tells (choose f l g h i j) r = true
 -- how many bytes a run's sheet may have for members that have none in the record
 unfoldable pub spare : Members → ℕ
 spare end = 0
-spare (known l c n ▸ r) = spare r
+spare (known w ▸ r) = spare r
 spare (one f i ▸ r) = spare r
 spare (maybe f i ▸ r) = 4 + spare r
 spare (flag f ▸ r) = 5 + spare r
@@ -60,7 +60,7 @@ unfoldable mutual
   clears (m ▸ r) = tells m r && (clearPart m && clears r)
 
   pub clearPart : Member → Bool
-  clearPart (known l c n) = passes (l .rule c)
+  clearPart (known w) = passes (w .leaf .rule (w .content))
   clearPart (one f i) = clear i
   clearPart (maybe f i) = clear i
   clearPart (flag f) = true
@@ -237,7 +237,7 @@ begins-critical t false w p q = p
 begins-apart : (t : ℕ) (r : Members) (v : Values r) → T (apart t r) → begins t (encodes r v) ≡ false
 unfolding begins encodes apart
 begins-apart t end v h = refl
-begins-apart t (known l c n ▸ r) v h = begins-tlv t (l .tag) c (encodes r (v .1)) h
+begins-apart t (known w ▸ r) v h = begins-tlv t (w .leaf .tag) (w .content) (encodes r (v .1)) h
 begins-apart t (one f i ▸ r) v h = begins-other t i (v .0) (encodes r (v .1)) h
 begins-apart t (maybe f i ▸ r) v h =
     begins-option t (λ x. encode i x) (v .0) (encodes r (v .1))
@@ -253,7 +253,7 @@ begins-apart t (choose f l g k i j ▸ r) v h =
 
 -- what follows a member that may be missing does not begin as it does
 abbrev Follows : Member → List ℕ → Type 0
-Follows (known l c n) w = Unit {0}
+Follows (known k) w = Unit {0}
 Follows (one f i) w = Unit {0}
 Follows (maybe f i) w = begins (tagOf i) w ≡ false
 Follows (flag f) w = begins (boolean .tag) w ≡ false
@@ -261,7 +261,7 @@ Follows (choose f l g h i j) w = Unit {0}
 
 follows : (m : Member) (r : Members) (v : Values r) → T (tells m r) → Follows m (encodes r v)
 unfolding tells
-follows (known l c n) r v h = tt
+follows (known w) r v h = tt
 follows (one f i) r v h = tt
 follows (maybe f i) r v h = begins-apart (tagOf i) r v h
 follows (flag f) r v h = begins-apart (boolean .tag) r v h
@@ -313,9 +313,11 @@ mutual
 
   pub forwardPart : (m : Member) → T (clearPart m) → (v : Part m) → OkPart m v → (w : List ℕ) (b : ℕ) → Follows m w → length (encodePart m v) < unspelled
       → readPart m (encodePart m v ++ w) b ≡ good (v, w, b + length (encodePart m v))
-  forwardPart (known l c n) k v ok w b q h =
+  forwardPart (known x) k v ok w b q h =
+      let l : Leaf = x .leaf in
+      let c : List ℕ = x .content in
       let m = length-tlv (l .tag) c in
-      rw (leaf-forward (l .tag) (onlyRule (l .rule) c n) c w b (only-there (l .rule) c n (passed (l .rule c) k)) h) (ap (λ (m : ℕ). good (v, w, m)) (omega arith))
+      rw (leaf-forward (l .tag) (knownRule x) c w b (only-there (l .rule) c (x .other) (passed (l .rule c) k)) h) (ap (λ (m : ℕ). good (v, w, m)) (omega arith))
   forwardPart (one f i) k v ok w b q h = forward i k v ok w b h
   forwardPart (maybe f i) k v ok w b q h =
       option-forward (λ x p. read i x p) (λ x. encode i x) (λ x. Ok i x) (λ x o w p q. forward i k x o w p q) (tagOf i) (starts i) v ok w b q h
@@ -385,10 +387,11 @@ mutual
       rw (← good-inj e₄) (u .0 ∙ ap (λ (z : List ℕ). encodePart m (a .0) ++ z) (s .0), (u .1, s .1))
 
   pub backwardPart : (m : Member) → Backward (λ w b. readPart m w b) (λ v. encodePart m v) (λ v. OkPart m v)
-  backwardPart (known l c n) w b x q =
+  backwardPart (known y) w b x q =
       by-bind _ _ _ q λ a e₁ e₂.
-      let u = leaf-back (l .tag) (onlyRule (l .rule) c n) w b a e₁ in
-      let v = only-back (l .rule) c n (a .0) (u .1) in
+      let l : Leaf = y .leaf in
+      let u = leaf-back (l .tag) (knownRule y) w b a e₁ in
+      let v = only-back (l .rule) (y .content) (y .other) (a .0) (u .1) in
       rw (← good-inj e₂) (rw v at (u .0), tt, u .2 ∙ ap (λ (z : List ℕ). b + length (tlv (l .tag) z)) v)
   backwardPart (one f i) w b x q = backward i w b x q
   backwardPart (maybe f i) w b x q = option-back (λ x p. read i x p) (λ x. encode i x) (λ x. Ok i x) (λ y p z g. backward i y p z g) (tagOf i) w b x q

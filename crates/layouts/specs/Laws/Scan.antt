@@ -19,8 +19,7 @@ use Rattle.heads.specs.declared.Seen.{Seen}
 use Rattle.heads.specs.declared.Step.{Step}
 use Rattle.heads.specs.declared.Step.the-variants.{Next, Refused}
 use Rattle.contents.specs.Content.{Check, fine, wrong, judge}
-use Rattle.contents.specs.Rules.{onlyRule}
-use Rattle.contents.specs.Leaves.{boolean}
+use Rattle.contents.specs.Leaves.{boolean, knownRule}
 use Rattle.contents.specs.Laws.Leaves.{by-judge}
 use Rattle.layouts.specs.Layout.{Item, leaf, node, list, wrap, Members, end, _▸_, Member, known, one, maybe, flag, choose, tagOf, Value, Values, Part, encode, encodePart}
 use Rattle.layouts.specs.Whole.{sequence, recordAt, accept}
@@ -225,8 +224,8 @@ module _ (s : List ℕ) where
         rw (scans-read r (a .2) e (o .2) es, ← o .0) (out-map (λ x. e) (λ x. e) _ _ λ a. refl))
 
     pub part-read : (m : Member) (p e : ℕ) → p ≤ e → e ≤ length s → scanPart m s p e ≡ step (readPart m (slice p e s) p)
-    part-read (known l k n) p e pe es =
-        rw (leaf-agree (l .tag) (onlyRule (l .rule) k n) p e pe es) (seen-bind (λ x. x .2) _ _ _ λ c h. refl)
+    part-read (known k) p e pe es =
+        rw (leaf-agree (k .leaf .tag) (knownRule k) p e pe es) (seen-bind (λ x. x .2) _ _ _ λ c h. refl)
     part-read (one f i) p e pe es = scan-read i p e pe es
     part-read (maybe f i) p e pe es =
         rw (begins-agree (tagOf i) p e pe es, scan-read i p e pe es)
