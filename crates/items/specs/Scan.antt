@@ -3,7 +3,7 @@ use mathlib.Core.Path.{_≡_}
 use Prim.Native.Nat.{ℕ, _+_}
 use mathlib.Core.List.{List}
 use lib.Seq.{slice}
-use lib.Dec.{ltb}
+use lib.Dec.{ltb, eqb}
 use Rattle.terms.specs.Answer.{Res, good, fault, pick}
 use Rattle.heads.specs.Head.{Size, size, opening, before}
 use Rattle.items.specs.declared.Tag.{Tag}
@@ -39,12 +39,17 @@ Tells b Other = (t : Tag) → b ≡ tagByte t → ⊥
 
 -- ---- lengths and heads
 
+-- by the bytes of tag and length together
 unfoldable pub formOf : ℕ → Form
-formOf n = pick (ltb n 128) Short (pick (ltb n 256) OneByte TwoBytes)
+formOf h = pick (eqb h 2) Short (pick (eqb h 3) OneByte TwoBytes)
 
 abbrev pub spelled : Res Size → Length
-spelled (good z) = Spelled (formOf (z .0)) (before (z .0)) (z .0)
+spelled (good z) = Spelled (formOf (before (z .0))) (before (z .0)) (z .0)
 spelled (fault n p) = Bad
+
+-- a length that a form is for from `l` on
+abbrev pub longOf : Form → ℕ → ℕ → ℕ → Length
+longOf o h l n = pick (ltb n l) Bad (Spelled o h n)
 
 -- the length of the item whose tag stands at `p`
 unfoldable pub lengthAt : List ℕ → ℕ → ℕ → Length

@@ -1,10 +1,10 @@
 // An item's head: its tag and its length, and where its content lies.
 ghost use mathlib.Core.Path.{_≡_};
-ghost use Prim.Native.Nat.{_+_, _*_, _≤_, _<_};
-ghost use lib.ListN.{length, getD};
-ghost use Rattle.items.specs.Scan.{tagByte, Tells, lengthAt, openingAt};
+ghost use Prim.Native.Nat.{_+_, _≤_, _<_};
+ghost use lib.ListN.{length};
+ghost use Rattle.items.specs.Scan.{tagByte, Tells, longOf, lengthAt, openingAt};
 ghost use Rattle.heads.specs.Scan.{headAt, outermostAt};
-ghost use Rattle.items.specs.Laws.Scan.{refusalOf, roomAt};
+ghost use Rattle.items.specs.Laws.Scan.{roomAt};
 use heads::Seen;
 
 // The encloser ends where an item must begin.
@@ -112,47 +112,17 @@ fn wide(b: u8) -> usize
     b as usize
 }
 
-// A length in one byte after 81, from 128 on.
-fn one_byte(s: &[u8], at: usize, end: usize) -> Length
-    requires { ⌜ at + 2 ≤ end ⌝ }
-    requires { ⌜ end ≤ length (now s) ⌝ }
-    requires { ⌜ getD (now s) (at + 1) 0 ≡ 0x81 ⌝ }
-    ensures { λ r. ⌜ r ≡ lengthAt (now (s .entry)) at end ⌝ }
+// A length in bytes of its own after the first, if no shorter form has it.
+fn long(form: Form, header: usize, least: usize, content: usize) -> Length
+    ensures { λ r. ⌜ r ≡ longOf form header least content ⌝ }
 {
-    if end - at < 3 {
-        return Length::Bad;
-    }
-    let n = wide(s[at + 2]);
-    if n < 128 {
+    if content < least {
         return Length::Bad;
     }
     Length::Spelled {
-        form: Form::OneByte,
-        header: 3,
-        content: n,
-    }
-}
-
-// A length in two bytes after 82, from 256 on.
-fn two_bytes(s: &[u8], at: usize, end: usize) -> Length
-    requires { ⌜ at + 2 ≤ end ⌝ }
-    requires { ⌜ end ≤ length (now s) ⌝ }
-    requires { ⌜ getD (now s) (at + 1) 0 ≡ 0x82 ⌝ }
-    ensures { λ r. ⌜ r ≡ lengthAt (now (s .entry)) at end ⌝ }
-{
-    if end - at < 4 {
-        return Length::Bad;
-    }
-    let high = wide(s[at + 2]);
-    let low = wide(s[at + 3]);
-    let n = high * 256 + low;
-    if n < 256 {
-        return Length::Bad;
-    }
-    Length::Spelled {
-        form: Form::TwoBytes,
-        header: 4,
-        content: n,
+        form,
+        header,
+        content,
     }
 }
 
@@ -161,7 +131,8 @@ fn length_at(s: &[u8], at: usize, end: usize) -> Length
     requires { ⌜ (at < end) × (end ≤ length (now s)) ⌝ }
     ensures { λ r. ⌜ r ≡ lengthAt (now (s .entry)) at end ⌝ }
 {
-    if end - at < 2 {
+    let left = end - at;
+    if left < 2 {
         return Length::Bad;
     }
     let b = s[at + 1];
@@ -171,8 +142,20 @@ fn length_at(s: &[u8], at: usize, end: usize) -> Length
             header: 2,
             content: wide(b),
         },
-        0x81 => one_byte(s, at, end),
-        0x82 => two_bytes(s, at, end),
+        0x81 => {
+            if left < 3 {
+                return Length::Bad;
+            }
+            let n = wide(s[at + 2]);
+            long(Form::OneByte, 3, 128, n)
+        }
+        0x82 => {
+            if left < 4 {
+                return Length::Bad;
+            }
+            let n = wide(s[at + 2]) * 256 + wide(s[at + 3]);
+            long(Form::TwoBytes, 4, 256, n)
+        }
         _ => Length::Bad,
     }
 }
@@ -202,16 +185,6 @@ fn open(s: &[u8], tag: Tag, at: usize, end: usize) -> Opening
     Opening::Opened(header, content)
 }
 
-// The refusal of an item that was not opened.
-fn unopened(o: Opening) -> Seen
-    ensures { λ r. ⌜ r ≡ refusalOf o ⌝ }
-{
-    match o {
-        Opening::Opened(header, content) => Seen::Item(header, content),
-        Opening::Refused(number, place) => Seen::Refused(number, place),
-    }
-}
-
 // The content behind a header, if it ends by the encloser's end: 4.
 fn room(at: usize, header: usize, content: usize, end: usize) -> Seen
     requires { ⌜ at + header ≤ end ⌝ }
@@ -230,10 +203,10 @@ pub fn head(s: &[u8], tag: Tag, at: usize, end: usize) -> Seen
 {
     let stop = windows::nearer(end, s.len());
     let o = open(s, tag, at, stop);
-    let Opening::Opened(header, content) = o else {
-        return unopened(o);
-    };
-    room(at, header, content, stop)
+    match o {
+        Opening::Opened(header, content) => room(at, header, content, stop),
+        Opening::Refused(number, place) => Seen::Refused(number, place),
+    }
 }
 
 // The outermost item, of at most `most` bytes with its header: 17 stands between 3 and 4.
@@ -242,11 +215,13 @@ pub fn outermost(s: &[u8], most: usize, tag: Tag, at: usize, end: usize) -> Seen
 {
     let stop = windows::nearer(end, s.len());
     let o = open(s, tag, at, stop);
-    let Opening::Opened(header, content) = o else {
-        return unopened(o);
-    };
-    if most < header + content {
-        return Seen::Refused(TOO_LARGE, at);
+    match o {
+        Opening::Opened(header, content) => {
+            if most < header + content {
+                return Seen::Refused(TOO_LARGE, at);
+            }
+            room(at, header, content, stop)
+        }
+        Opening::Refused(number, place) => Seen::Refused(number, place),
     }
-    room(at, header, content, stop)
 }

@@ -167,6 +167,12 @@ opening-tlv : (t : ℕ) (c w : List ℕ) (b : ℕ) → length c < unspelled → 
 unfolding opening tlv need
 opening-tlv t c w b h = rw (eq-eqb t t refl, append-assoc (octets (length c)) c w, size-octets b (length c) (c ++ w) h)
 
+-- what an opening leaves of a window
+pub opening-rest : (t : ℕ) (w : List ℕ) (b : ℕ) (z : Size) → opening t w b ≡ good z → (length w ≡ before (z .0) + length (z .1)) × (z .0 < unspelled)
+unfolding opening
+opening-rest t [] b z e = clash e
+opening-rest t (x ∷ w) b z e = by-need _ _ _ _ _ e λ h e₁. let q = size-back b w z e₁ in (rw (q .0) (omega (arith, length-append (octets (z .0)) (z .1))), q .1)
+
 cut-there : (c w : List ℕ) (b : ℕ) → cut b (length c, c ++ w) ≡ good (c, w, b + before (length c))
 unfolding cut need
 cut-there c w b =

@@ -12,9 +12,9 @@ use borrow.Author.Tests.{le-leb}
 use Rattle.terms.specs.Numbers.{bad-length, other-tag, too-large}
 use Rattle.terms.specs.Answer.{Res, good, fault, pick, bind, need, have, every}
 use Rattle.terms.specs.Digits.{isByte, number, leading}
-use Rattle.terms.specs.Laws.Answer.{clash, test, and-l, and-r, by-need, is-true, is-false}
-use Rattle.heads.specs.Head.{Form, forms, octets, Size, unspell, size, opening, Cut, before, cut, outermost}
-use Rattle.heads.specs.Laws.Head.{size-back}
+use Rattle.terms.specs.Laws.Answer.{test, and-l, and-r, is-true, is-false}
+use Rattle.heads.specs.Head.{Form, forms, Size, unspell, size, opening, Cut, before, cut, outermost}
+use Rattle.heads.specs.Laws.Head.{opening-rest}
 
 -- what was read, with more after it
 abbrev moreSome : List ℕ → Option Size → Option Size
@@ -74,12 +74,6 @@ opening-more t (x ∷ a ∷ w) z b h =
     rw (unspell-more forms b a w z (rw (le-leb 1 (length w) l, le-leb 2 (length w) k) tt))
     (ap (need (eqb x t) other-tag b) (pick-more z (ltb a 128) (good (a, w)) (unspell forms b a w)) ∙ need-more z (eqb x t) other-tag b _)
 
--- what an opening leaves
-opening-length : (t : ℕ) (w : List ℕ) (b : ℕ) (x : Size) → opening t w b ≡ good x → length w ≡ before (x .0) + length (x .1)
-unfolding opening
-opening-length t [] b x e = clash e
-opening-length t (a ∷ w) b x e = by-need _ _ _ _ _ e λ h e₁. let q = size-back b w x e₁ in let l : length w ≡ length (octets (x .0)) + length (x .1) = ap length (q .0) ∙ length-append (octets (x .0)) (x .1) in omega arith
-
 -- of a window with more bytes than the largest record has
 pub outermost-more : (most t : ℕ) (w z : List ℕ) (b : ℕ) → most < length w → 4 ≤ length w → outermost most t (w ++ z) b ≡ moreCut z (outermost most t w b)
 unfolding outermost bind need cut
@@ -94,5 +88,5 @@ outermost-more most t w z b m h = rw (opening-more t w z b h) (go (opening t w b
         (λ y. rw (is-false (leb (before (x .0) + x .0) most) y) refl)
 
     go : (r : Res Size) → opening t w b ≡ r → (bind (moreSize z r) λ x. need (leb (before (x .0) + x .0) most) too-large b (cut b x)) ≡ moreCut z (bind r λ x. need (leb (before (x .0) + x .0) most) too-large b (cut b x))
-    go (good x) e = held x (opening-length t w b x e)
+    go (good x) e = held x (opening-rest t w b x e .0)
     go (fault n p) e = refl

@@ -1,5 +1,7 @@
 -- `items::head`: what was opened is cut off the window, what was not is refused.
-use Rattle.items.specs.Laws.Scan.{opened-within, head-refused, head-opened}
+use Rattle.items.specs.Laws.Scan.{refused, opened-within, head-opened}
+use Rattle.heads.specs.Head.{head}
+use Rattle.heads.specs.Scan.{headAt}
 use Rattle.windows.specs.Laws.Window.{clamp-in}
 use borrow.Author.Needs.{needs}
 use Rattle.items.proofs.head.Statement.{statement}
@@ -14,20 +16,18 @@ open-requires c κs = search (needs, clamp-in)
 enum-known-o : tie.Need-enum-known-o
 enum-known-o c = search needs
 
-enum-told : tie.Need-enum-told
-enum-told c = search needs
-
-unopened-requires : tie.Need-unopened-requires
-unopened-requires c κs = search needs
-
-returns : tie.Need-returns
-returns c = search (needs, head-refused)
-
 room-requires : tie.Need-room-requires
 room-requires c κs = search (needs, opened-within)
 
+enum-known-o-2 : tie.Need-enum-known-o-2
+enum-known-o-2 c = search needs
+
+returns : tie.Need-returns
+returns c = search (needs, head-opened)
+
 returns-2 : tie.Need-returns-2
-returns-2 c = search (needs, head-opened)
+unfolding headAt head
+returns-2 c = search (needs, refused)
 
 pub head-spec : {M : Type 1} → statement M
 head-spec =
@@ -36,8 +36,7 @@ head-spec =
     nearer-requires
     open-requires
     enum-known-o
-    enum-told
-    unopened-requires
-    returns
     room-requires
+    enum-known-o-2
+    returns
     returns-2)

@@ -1,11 +1,11 @@
--- `items::length_at`: the byte after the tag picks the form; 81 and 82 have functions of their own.
-use Rattle.items.specs.Laws.Scan.{length-missing, length-short, length-other}
+-- `items::length_at`: the byte after the tag picks the form; 81 and 82 by one law over the form.
+use Rattle.items.specs.Laws.Scan.{length-missing, length-short, length-other, one, two, one-reads, two-reads, long-cut, one-read, two-read}
 use borrow.Author.Needs.{needs}
 use Rattle.items.proofs.length_at.Statement.{statement}
 use Rattle.items.proofs.length_at.Tie as tie
 
-sub-if1 : tie.Need-sub-if1
-sub-if1 c = search needs
+sub-left : tie.Need-sub-left
+sub-left c = search needs
 
 returns : tie.Need-returns
 returns c = search (needs, length-missing)
@@ -16,39 +16,91 @@ add-b c = search needs
 shared-slice-read-b : tie.Need-shared-slice-read-b
 shared-slice-read-b c = search needs
 
-one-byte-requires : tie.Need-one-byte-requires
-one-byte-requires c κs = search needs
+returns-2 : tie.Need-returns-2
+returns-2 c = search (needs, long-cut one one-reads)
 
-two-bytes-requires : tie.Need-two-bytes-requires
-two-bytes-requires c κs = search needs
+add-wide : tie.Need-add-wide
+add-wide c = search needs
+
+shared-slice-read-wide : tie.Need-shared-slice-read-wide
+shared-slice-read-wide c = search needs
 
 wide-requires : tie.Need-wide-requires
 wide-requires c κs = search needs
 
-returns-2 : tie.Need-returns-2
-returns-2 c = search needs
+long-requires : tie.Need-long-requires
+long-requires c κs = search needs
 
 returns-3 : tie.Need-returns-3
-returns-3 c = search needs
+returns-3 c = search (needs, long-cut two two-reads)
+
+add-wide-2 : tie.Need-add-wide-2
+add-wide-2 c = search needs
+
+shared-slice-read-wide-2 : tie.Need-shared-slice-read-wide-2
+shared-slice-read-wide-2 c = search needs
+
+wide-requires-2 : tie.Need-wide-requires-2
+wide-requires-2 c κs = search needs
+
+mul-n : tie.Need-mul-n
+mul-n c = search needs
+
+add-wide-3 : tie.Need-add-wide-3
+add-wide-3 c = search needs
+
+shared-slice-read-wide-3 : tie.Need-shared-slice-read-wide-3
+shared-slice-read-wide-3 c = search needs
+
+wide-requires-3 : tie.Need-wide-requires-3
+wide-requires-3 c κs = search needs
+
+add-n : tie.Need-add-n
+add-n c = search needs
+
+long-requires-2 : tie.Need-long-requires-2
+long-requires-2 c κs = search needs
+
+wide-requires-4 : tie.Need-wide-requires-4
+wide-requires-4 c κs = search needs
 
 returns-4 : tie.Need-returns-4
-returns-4 c = search (needs, length-short)
+returns-4 c = search (needs, one-read)
 
 returns-5 : tie.Need-returns-5
-returns-5 c = search (needs, length-other)
+returns-5 c = search (needs, two-read)
+
+returns-6 : tie.Need-returns-6
+returns-6 c = search (needs, length-short)
+
+returns-7 : tie.Need-returns-7
+returns-7 c = search (needs, length-other)
 
 pub length-at-spec : {M : Type 1} → statement M
 length-at-spec =
     tie.close
     (tie.spec
-    sub-if1
+    sub-left
     returns
     add-b
     shared-slice-read-b
-    one-byte-requires
-    two-bytes-requires
-    wide-requires
     returns-2
+    add-wide
+    shared-slice-read-wide
+    wide-requires
+    long-requires
     returns-3
+    add-wide-2
+    shared-slice-read-wide-2
+    wide-requires-2
+    mul-n
+    add-wide-3
+    shared-slice-read-wide-3
+    wide-requires-3
+    add-n
+    long-requires-2
+    wide-requires-4
     returns-4
-    returns-5)
+    returns-5
+    returns-6
+    returns-7)

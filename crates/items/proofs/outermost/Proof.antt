@@ -1,5 +1,7 @@
 -- `items::outermost`: as `head`, with 17 between.
-use Rattle.items.specs.Laws.Scan.{opened-within, opened-fits, outermost-refused, outermost-large, outermost-opened}
+use Rattle.items.specs.Laws.Scan.{refused, opened-within, opened-fits, outermost-large, outermost-opened}
+use Rattle.heads.specs.Head.{outermost}
+use Rattle.heads.specs.Scan.{outermostAt}
 use Rattle.windows.specs.Laws.Window.{clamp-in}
 use borrow.Author.Needs.{needs}
 use Rattle.items.proofs.outermost.Statement.{statement}
@@ -14,26 +16,24 @@ open-requires c κs = search (needs, clamp-in)
 enum-known-o : tie.Need-enum-known-o
 enum-known-o c = search needs
 
-enum-told : tie.Need-enum-told
-enum-told c = search needs
-
-unopened-requires : tie.Need-unopened-requires
-unopened-requires c κs = search needs
-
-returns : tie.Need-returns
-returns c = search (needs, outermost-refused)
-
 add-if1 : tie.Need-add-if1
 add-if1 c = search (needs, opened-fits)
 
-returns-2 : tie.Need-returns-2
-returns-2 c = search (needs, outermost-large)
+returns : tie.Need-returns
+returns c = search (needs, outermost-large)
 
 room-requires : tie.Need-room-requires
 room-requires c κs = search (needs, opened-within)
 
+enum-known-o-2 : tie.Need-enum-known-o-2
+enum-known-o-2 c = search needs
+
+returns-2 : tie.Need-returns-2
+returns-2 c = search (needs, outermost-opened)
+
 returns-3 : tie.Need-returns-3
-returns-3 c = search (needs, outermost-opened)
+unfolding outermostAt outermost
+returns-3 c = search (needs, refused)
 
 pub outermost-spec : {M : Type 1} → statement M
 outermost-spec =
@@ -42,10 +42,9 @@ outermost-spec =
     nearer-requires
     open-requires
     enum-known-o
-    enum-told
-    unopened-requires
-    returns
     add-if1
-    returns-2
+    returns
     room-requires
+    enum-known-o-2
+    returns-2
     returns-3)

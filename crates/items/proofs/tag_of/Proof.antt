@@ -1,6 +1,6 @@
 -- `items::tag_of` names the tag whose byte was matched; what no arm names is the byte of no tag.
 use borrow.Author.Needs.{needs}
-use Rattle.items.specs.Laws.Scan.{no-tag}
+use Rattle.items.specs.Laws.Tag.{no-tag}
 use Rattle.items.proofs.tag_of.Statement.{statement}
 use Rattle.items.proofs.tag_of.Tie as tie
 
