@@ -3,7 +3,7 @@ use mathlib.Core.Path.{_≡_, refl}
 use Prim.Native.Nat.{ℕ}
 use mathlib.Core.Bool.{true}
 use mathlib.Core.List.{List, [], _∷_, _++_}
-use lib.ListN.{length, set, take}
+use lib.ListN.{length, replicate, set, take, drop}
 use Rattle.terms.specs.declared.Field.the-variants.{ListKind, CertificateList, ListedDigest, SealCustomData, SealCustomItem, SealCustomCritical}
 use Rattle.terms.specs.Numbers.{done, other-tag, bad-boolean, left-over, too-many-items, too-large, bad-sheet, no-room}
 use Rattle.terms.specs.Answer.{good, pick, bind, need, have, every, enough, same, Told, told-one, refusal, answered}
@@ -126,6 +126,8 @@ writings =
     ∷ (written 100 (set fullSheet 14 0x02) 100, refusal bad-sheet 10)
     ∷ (written 100 (set fullSheet 18 0x02) 100, refusal bad-sheet 15)
     ∷ (written 100 (set fullSheet 22 0x03) 100, refusal too-many-items 19)
+    -- a second string of 65,536 bytes, whose length no record can have
+    ∷ (written 65535 (take 5 bareSheet ++ 0x00 ∷ 0x01 ∷ 0x00 ∷ 0x00 ∷ replicate 65536 0x5A ++ drop 10 bareSheet) 100, refusal too-large 0)
     -- a list of none, and behind it what was its items
     ∷ (written 100 (set fullSheet 22 0x00) 100, refusal bad-sheet 23)
     ∷ []

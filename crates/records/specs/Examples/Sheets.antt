@@ -64,10 +64,6 @@ stored-bytes = refl
 abbrev writtenAtMost : ℕ → List ℕ → ℕ → Told
 writtenAtMost most x n = answered (λ w. length w) (writeRecord most signature x n)
 
--- S's sheet with a picture of 65,536 bytes, whose length no record can have
-abbrev unwritable : List ℕ
-unwritable = take 108 sheetS ++ 0x00 ∷ 0x01 ∷ 0x00 ∷ 0x00 ∷ replicate 65536 0x00 ++ drop 113 sheetS
-
 -- "A writer reads the whole sheet first, then 17, then 20. A reader that fills a sheet gives 20 after all else."
 abbrev roomRows : List Row
 roomRows =
@@ -88,7 +84,6 @@ roomRows =
     ∷ (writtenAtMost 164 sheetS 165, refusal too-large 0)
     ∷ (writtenAtMost 164 sheetS 10, refusal too-large 0)
     ∷ (writtenAtMost 164 (sheetS ++ 0x00 ∷ []) 10, refusal bad-sheet 222)
-    ∷ (writeAnswer signature unwritable [], refusal too-large 0)
     ∷ []
 
 rooms : asks roomRows ≡ answers roomRows
