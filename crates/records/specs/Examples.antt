@@ -28,7 +28,8 @@ use Rattle.layouts.specs.Whole.{recordAt, accept, finishSheet, acceptSheet, fit
 use Rattle.layouts.specs.Fields.{Entry, eachFields, optionFields, eitherFields, flagFields, itemFields, fields, isField, first, bytesIn, isThere}
 use Rattle.layouts.specs.Places.{numbersOf}
 use Rattle.records.specs.Record.{seal, signature}
-use Rattle.records.specs.Handing.{fieldsIn, recordAnswer, fillAnswer, fillAfter, writeAnswer, writeAfter, fieldAnswer, isListed, matchAnswer, isOneOf, valueAnswer, criticalAnswer, countAnswer}
+use Rattle.records.specs.Handing.{fieldsIn, recordAnswer, fillAnswer, fillAfter, writeAnswer, writeAfter, fieldAnswer, isListed, matchAnswer, isOneOf, valueAnswer, criticalAnswer, countAnswer, handedOut}
+use Rattle.records.specs.declared.Part.the-variants.{There, Absent, Refused}
 use Rattle.records.specs.Samples.{recordS, recordD}
 
 -- to name this one on a line is to name all that a reading, a sheet and a handing out compute with
@@ -278,6 +279,10 @@ partsD =
 parts-of-D : asks partsD ≡ answers partsD
 unfolding evaluate
 parts-of-D = agreed partsD tt
+
+-- "With a refusal, an absent field or no match, the part is empty, at the record's start"
+handings : handedOut (There 26 4) ∷ handedOut Absent ∷ handedOut (Refused bad-length 0) ∷ [] ≡ (26, 4) ∷ (0, 0) ∷ (0, 0) ∷ []
+handings = refl
 
 -- ---- the three slips of "Slips seen in other readers"
 

@@ -122,11 +122,5 @@ unfolding evaluateRun
 reader-steps = agreed (steps ++ elsewhere) tt
 
 -- the part handed out: the record, else "empty, at the run's start" (03, 37)
-record-handed-out : handedOut (Record 165 165) ≡ (165, 165)
-record-handed-out = refl
-
-nothing-at-the-end : handedOut End ≡ (0, 0)
-nothing-at-the-end = refl
-
-nothing-at-a-fault : handedOut (Refused other-tag 165 1) ≡ (0, 0)
-nothing-at-a-fault = refl
+handings : handedOut (Record 165 165) ∷ handedOut End ∷ handedOut (Refused other-tag 165 1) ∷ [] ≡ (165, 165) ∷ (0, 0) ∷ (0, 0) ∷ []
+handings = refl

@@ -8,7 +8,7 @@ use Rattle.terms.specs.Numbers.{done, item-missing, other-tag, bad-length, past
 use Rattle.terms.specs.Answer.{Told, told-one, refusal}
 use Rattle.terms.specs.Laws.Table.{Row, asks, answers, agreed}
 use Rattle.records.specs.Record.{seal, signature}
-use Rattle.records.specs.Handing.{recordAnswer, countAnswer}
+use Rattle.records.specs.Handing.{recordAnswer, fillAnswer, writeAnswer, countAnswer}
 use Rattle.records.specs.Samples.{recordS, recordD}
 use Rattle.records.specs.Examples.{evaluate}
 
@@ -81,7 +81,7 @@ damaged =
     -- 13, "BOOLEAN not FF alone": 01, and no bytes
     ∷ (gets (set recordD 148 0x01), refusal bad-boolean 146)
     ∷ (gets (set recordD 221 0x00), refusal bad-boolean 220)
-    -- 14, "no bytes where some are needed": header name, seal id, certificate, picture data, maker, signed value, property text
+    -- 14, "no bytes where some are needed": header name, seal id, certificate, picture data, maker, signed value, property text, signer
     ∷ (gets (set recordS 16 0x00), refusal no-bytes 15)
     ∷ (gets (set recordS 25 0x00), refusal no-bytes 24)
     ∷ (gets (set recordS 40 0x00), refusal no-bytes 39)
@@ -89,6 +89,7 @@ damaged =
     ∷ (gets (set recordS 108 0x00), refusal no-bytes 107)
     ∷ (gets (set recordS 121 0x01), refusal no-bytes 120)
     ∷ (gets (set recordS 146 0x00), refusal no-bytes 145)
+    ∷ (gets (set recordS 149 0x00), refusal no-bytes 148)
     -- 17, "outermost record over 65,535 bytes; place 0": by the declared size, before 4; a seal inside is not outermost
     ∷ (gets (0x30 ∷ 0x82 ∷ 0xFF ∷ 0xFC ∷ []), refusal too-large 0)
     ∷ (gets (0x30 ∷ 0x82 ∷ 0xFF ∷ 0xFF ∷ []), refusal too-large 0)
@@ -182,3 +183,32 @@ lists =
 list-items : asks lists ≡ answers lists
 unfolding evaluate
 list-items = agreed lists tt
+
+-- ---- the table of refusal numbers, a record for each, by the number that stands there
+
+abbrev numbered : List Row
+numbered =
+    (gets [], refusal 1 0)
+    ∷ (gets (0x00 ∷ []), refusal 2 0)
+    ∷ (gets (0x30 ∷ 0x80 ∷ []), refusal 3 0)
+    ∷ (gets (0x30 ∷ 0x01 ∷ []), refusal 4 0)
+    ∷ (gets (recordS ++ 0x00 ∷ []), refusal 5 165)
+    ∷ (gets (set recordS 30 0x00), refusal 6 29)
+    ∷ (gets (set recordS 36 0x03), refusal 7 34)
+    ∷ (gets (set recordS 18 0x58), refusal 8 15)
+    ∷ (gets (set recordS 26 0x80), refusal 9 24)
+    ∷ (gets (set recordS 48 0x32), refusal 10 42)
+    ∷ (gets (set recordS 119 0xF5), refusal 11 110)
+    ∷ (gets (set recordS 122 0x01), refusal 12 120)
+    ∷ (gets (set recordD 148 0x00), refusal 13 146)
+    ∷ (gets (set recordS 25 0x00), refusal 14 24)
+    ∷ (gets listOf0, refusal 15 37)
+    ∷ (gets (listOf65 (0x04 ∷ 0x01 ∷ 0xAA ∷ [])), refusal 16 240)
+    ∷ (gets (0x30 ∷ 0x82 ∷ 0xFF ∷ 0xFC ∷ []), refusal 17 0)
+    ∷ (writeAnswer signature [] [], refusal 19 0)
+    ∷ (fillAnswer signature recordS [], refusal 20 222)
+    ∷ []
+
+numbered-refusals : asks numbered ≡ answers numbered
+unfolding evaluate
+numbered-refusals = agreed numbered tt

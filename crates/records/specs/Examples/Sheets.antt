@@ -158,13 +158,17 @@ badSections =
     ∷ (written (emptied 146 158 sheetS), refusal bad-identifier 146)
     ∷ (written (set sheetS 212 0xF5), refusal bad-identifier 201)
     ∷ (written (emptied 175 181 sheetD), refusal bad-identifier 175)
-    -- 14: seal id, certificate, picture type, maker, signed value, property text, digest, stamp
+    -- 14: seal id, certificate, picture type and data, maker, signed value, original digest, property text, signer, signature, digest, stamp
     ∷ (written (emptied 4 9 sheetS), refusal no-bytes 4)
     ∷ (written (emptied 41 46 sheetS), refusal no-bytes 41)
     ∷ (written (emptied 103 108 sheetS), refusal no-bytes 103)
+    ∷ (written (emptied 108 113 sheetS), refusal no-bytes 108)
     ∷ (written (emptied 141 146 sheetS), refusal no-bytes 141)
     ∷ (written (emptied 158 163 sheetS), refusal no-bytes 158)
+    ∷ (written (emptied 182 187 sheetS), refusal no-bytes 182)
     ∷ (written (emptied 187 192 sheetS), refusal no-bytes 187)
+    ∷ (written (emptied 196 201 sheetS), refusal no-bytes 196)
+    ∷ (written (emptied 213 218 sheetS), refusal no-bytes 213)
     ∷ (written (emptied 56 62 sheetD), refusal no-bytes 56)
     ∷ (written (emptied 319 326 sheetD), refusal no-bytes 319)
     -- "May have no bytes: vendor, name, digest's PrintableString, custom value.": D has 4, 3, 3 and 1 bytes less, its lengths are in the same forms
@@ -172,11 +176,13 @@ badSections =
     ∷ (written (emptied 26 33 sheetD), told-one done 251)
     ∷ (written (emptied 49 56 sheetD), told-one done 251)
     ∷ (written (emptied 186 191 sheetD), told-one done 253)
-    -- 15, and 16 at the list's count: 65, 257 and 16,777,217 items; custom data likewise, not at the count before
+    -- 15, and 16 at the list's count: 65, 257 and 16,777,217 items; of digests, and of custom data, not at the count before
     ∷ (written (set sheetS 40 0), refusal no-item 37)
     ∷ (written (set sheetS 40 65), refusal too-many-items 37)
     ∷ (written (set sheetS 39 1), refusal too-many-items 37)
     ∷ (written (set sheetS 37 1), refusal too-many-items 37)
+    ∷ (written (set sheetD 48 0), refusal no-item 45)
+    ∷ (written (set sheetD 48 65), refusal too-many-items 45)
     ∷ (written (set sheetD 174 65), refusal too-many-items 171)
     ∷ (written (set sheetD 273 65), refusal too-many-items 270)
     -- a count of 64 is no fault, but there the second item is missing
