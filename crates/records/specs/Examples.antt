@@ -1,4 +1,5 @@
--- Records S and D, evaluated; `Sheets` and `Refusals` have more of them. Assumes nothing.
+-- Records S and D, evaluated; `Parts`, `Sheets` and `Refusals` have more of them. Assumes nothing.
+pub mod Parts
 pub mod Sheets
 pub mod Refusals
 use mathlib.Core.Path.{_≡_, refl}
@@ -9,10 +10,10 @@ use mathlib.Core.List.{List, [], _∷_, _++_}
 use lib.ListN.{replicate, set, take, drop}
 use lib.IntN.{ℤ, pos, negsuc}
 use Rattle.terms.specs.declared.Field.{Field}
-use Rattle.terms.specs.declared.Field.the-variants.{SealInformation, Header, Seal, Vendor, SealId, Property, SealType, SealName, ListKind, CertificateList, ListedCertificate, ListedEntry, ListedName, ListedDigest, Created, Start, End, Picture, PictureType, PictureData, Width, Height, SealCustomData, SealCustomItem, SealCustomId, SealCustomCritical, SealCustomValue, MakerCertificate, SealAlgorithm, SealSignedValue, SignedPart, SigningTime, OriginalDigest, PropertyText, SignedCustomData, SignedCustomItem, SignedCustomId, SignedCustomCritical, SignedCustomValue, SignerCertificate, SignatureAlgorithm, SignatureValue, Stamp}
+use Rattle.terms.specs.declared.Field.the-variants.{SealInformation, Seal, Vendor, SealId, SealType, SealName, ListKind, CertificateList, ListedCertificate, ListedName, ListedDigest, Created, Start, End, PictureType, PictureData, Width, Height, SealCustomData, SealCustomId, SealCustomCritical, SealCustomValue, MakerCertificate, SealAlgorithm, SealSignedValue, SignedPart, SigningTime, OriginalDigest, PropertyText, SignedCustomData, SignedCustomId, SignedCustomCritical, SignedCustomValue, SignerCertificate, SignatureAlgorithm, SignatureValue, Stamp}
 use Rattle.terms.specs.Names.{code, sameName}
 use Rattle.terms.specs.Numbers.{done, absent, other-tag, bad-boolean, left-over, bad-length, item-missing}
-use Rattle.terms.specs.Answer.{pick, bind, need, have, every, enough, same, Told, gives, told-one, told-two, told-none, refusal}
+use Rattle.terms.specs.Answer.{Res, good, fault, pick, bind, need, have, every, enough, same, Told, gives, told-one, told-two, told-none, refusal}
 use Rattle.terms.specs.Laws.Table.{Row, asks, answers, sameWhole, sameWholes, sameTold, agree, agreed}
 use Rattle.terms.specs.Digits.{digits, numberFrom, leading}
 use Rattle.heads.specs.Head.{spell, octets, tlv, unspell, size, opening, cut, head, outermost}
@@ -21,15 +22,14 @@ use Rattle.contents.specs.Integer.{sign, shortest, wellFormed, turned, value, s
 use Rattle.contents.specs.Text.{within, starts, follows, textFrom, partsFrom, isIdentifier}
 use Rattle.contents.specs.Time.{leap, monthLength, possible, isDigit, partFrom, zulu, timeFrom, timeCheck, timeRule}
 use Rattle.contents.specs.Rules.{integerRule, stringRule, octetsRule, bitsRule, identifierRule, booleanRule, also, onlyRule}
-use Rattle.layouts.specs.Layout.{each, option, either, critical, encode}
+use Rattle.layouts.specs.Layout.{Members, Values, each, option, either, critical, encode}
 use Rattle.layouts.specs.Reading.{readBy, begins, finish, many, readOption, readFlag, readEither, read}
 use Rattle.layouts.specs.Sheet.{count, section, bit, sheetOption, sheetList, sheet, readCount, readSection, fillLeaf, times, unbit, fillFlag, fillOption, fillList, fill}
 use Rattle.layouts.specs.Whole.{recordAt, accept, finishSheet, acceptSheet, fit, fillSheet, writeRecord, stored}
 use Rattle.layouts.specs.Fields.{Entry, eachFields, optionFields, eitherFields, flagFields, itemFields, fields, isField, first, bytesIn, isThere}
 use Rattle.layouts.specs.Places.{numbersOf}
 use Rattle.records.specs.Record.{seal, signature}
-use Rattle.records.specs.Handing.{fieldsIn, recordAnswer, fillAnswer, fillAfter, writeAnswer, writeAfter, fieldAnswer, isListed, matchAnswer, isOneOf, valueAnswer, criticalAnswer, countAnswer, handedOut}
-use Rattle.records.specs.declared.Part.the-variants.{There, Absent, Refused}
+use Rattle.records.specs.Handing.{readRecord, fieldsIn, recordAnswer, fillAnswer, fillAfter, writeAnswer, writeAfter, fieldAnswer, isListed, matchAnswer, isOneOf, valueAnswer, criticalAnswer, countAnswer, signedBytes}
 use Rattle.records.specs.Samples.{recordS, recordD}
 
 -- to name this one on a line is to name all that a reading, a sheet and a handing out compute with
@@ -37,7 +37,7 @@ unfoldable pub evaluate : Unit {0}
 unfolding code sameName pick bind need have every enough same digits numberFrom leading spell octets tlv unspell size opening cut head outermost ask passes placeOf judge sign shortest wellFormed turned value shrink signOf stretch unstretch within starts follows textFrom partsFrom isIdentifier leap monthLength possible isDigit partFrom zulu timeFrom timeCheck timeRule integerRule stringRule octetsRule bitsRule identifierRule booleanRule also onlyRule each option either critical encode readBy begins finish many readOption readFlag readEither read count section bit sheetOption sheetList sheet readCount readSection fillLeaf times unbit fillFlag fillOption fillList fill recordAt accept finishSheet acceptSheet fit fillSheet writeRecord stored eachFields optionFields eitherFields flagFields itemFields fields isField first bytesIn isThere recordAnswer fillAnswer fillAfter writeAnswer writeAfter fieldsIn fieldAnswer isListed matchAnswer isOneOf valueAnswer criticalAnswer countAnswer sameWhole sameWholes sameTold agree
 evaluate = tt
 
-abbrev at : ℕ → ℕ → Told
+abbrev pub at : ℕ → ℕ → Told
 at a n = told-two done a n
 
 abbrev whole : ℤ → Told
@@ -74,6 +74,19 @@ numbersS =
 numbers-of-S : asks numbersS ≡ answers numbersS
 unfolding evaluate
 numbers-of-S = agreed numbersS tt
+
+-- "Signed bytes are the signed part, or the seal information, with its own tag and length."
+abbrev signedIn : Field → (r : Members) → Res (Values r) → List ℕ
+signedIn f r (good v) = signedBytes f r v
+signedIn f r (fault n p) = []
+
+signed-bytes-of-S : signedIn SignedPart signature (readRecord signature recordS) ≡ take 145 (drop 3 recordS)
+unfolding evaluate signedBytes
+signed-bytes-of-S = refl
+
+sealed-bytes-of-S : signedIn SealInformation seal (readRecord seal sealS) ≡ take 96 (drop 11 recordS)
+unfolding evaluate signedBytes
+sealed-bytes-of-S = refl
 
 -- where some of its parts stand: whether, start, length, items
 abbrev placesS : List (Field × List ℕ)
@@ -198,91 +211,6 @@ answersD =
 answers-of-D : asks answersD ≡ answers answersD
 unfolding evaluate
 answers-of-D = agreed answersD tt
-
--- ---- what is handed out as a part, by every name that has one
-
--- S with a second certificate AA: each length around it is 3 more
-abbrev twice : List ℕ
-twice =
-    let longer : List ℕ = set (set (set (set (set (set recordS 2 0xA5) 5 0x91) 10 0x74) 12 0x61) 28 0x43) 38 0x06 in
-    take 42 longer ++ 0x04 ∷ 0x01 ∷ 0xAA ∷ drop 42 longer
-
--- "A field is handed out as a part of the lent record, never a copy: the bytes its section has, or the signed bytes; in a list by index, absent past
--- the last." Start and length as D's bytes show them; a bit string begins behind its 00, and one in [0] behind both heads.
-abbrev partsD : List Row
-partsD =
-    (fieldAnswer signature SignedPart 0 recordD, at 3 224)
-    ∷ (fieldAnswer signature SealInformation 0 recordD, at 12 148)
-    ∷ (fieldAnswer signature Vendor 0 recordD, at 26 4)
-    ∷ (fieldAnswer signature SealId 0 recordD, at 32 2)
-    ∷ (fieldAnswer signature SealName 0 recordD, at 41 3)
-    ∷ (fieldAnswer signature ListedName 0 recordD, at 53 3)
-    ∷ (fieldAnswer signature ListedDigest 0 recordD, at 58 2)
-    ∷ (fieldAnswer signature ListedName 1 recordD, at 64 2)
-    ∷ (fieldAnswer signature ListedDigest 1 recordD, at 68 1)
-    ∷ (fieldAnswer signature Created 0 recordD, at 71 15)
-    ∷ (fieldAnswer signature Start 0 recordD, at 88 15)
-    ∷ (fieldAnswer signature End 0 recordD, at 105 15)
-    ∷ (fieldAnswer signature PictureType 0 recordD, at 124 3)
-    ∷ (fieldAnswer signature PictureData 0 recordD, at 129 2)
-    ∷ (fieldAnswer signature SealCustomId 0 recordD, at 144 2)
-    ∷ (fieldAnswer signature SealCustomValue 0 recordD, at 151 1)
-    ∷ (fieldAnswer signature SealCustomId 1 recordD, at 156 2)
-    ∷ (fieldAnswer signature SealCustomValue 1 recordD, at 160 0)
-    ∷ (fieldAnswer signature MakerCertificate 0 recordD, at 162 2)
-    ∷ (fieldAnswer signature SealAlgorithm 0 recordD, at 166 8)
-    ∷ (fieldAnswer signature SealSignedValue 0 recordD, at 177 2)
-    ∷ (fieldAnswer signature SigningTime 0 recordD, at 181 15)
-    ∷ (fieldAnswer signature OriginalDigest 0 recordD, at 199 3)
-    ∷ (fieldAnswer signature PropertyText 0 recordD, at 204 6)
-    ∷ (fieldAnswer signature SignedCustomId 0 recordD, at 218 2)
-    ∷ (fieldAnswer signature SignedCustomValue 0 recordD, at 225 2)
-    ∷ (fieldAnswer signature SignerCertificate 0 recordD, at 229 1)
-    ∷ (fieldAnswer signature SignatureAlgorithm 0 recordD, at 232 9)
-    ∷ (fieldAnswer signature SignatureValue 0 recordD, at 244 2)
-    ∷ (fieldAnswer signature Stamp 0 recordD, at 251 3)
-    ∷ (fieldAnswer signature ListedCertificate 0 recordS, at 41 1)
-    ∷ (fieldAnswer signature ListedCertificate 1 recordS, told-none absent)
-    ∷ (fieldAnswer signature ListedCertificate 1 twice, at 44 1)
-    ∷ (fieldAnswer signature SealCustomValue 2 recordD, told-none absent)
-    -- "Integers and critical come as values."; a structure that is not signed, and a list, has no section
-    ∷ (fieldAnswer signature Header 0 recordD, told-none absent)
-    ∷ (fieldAnswer signature Property 0 recordD, told-none absent)
-    ∷ (fieldAnswer signature SealType 0 recordD, told-none absent)
-    ∷ (fieldAnswer signature ListKind 0 recordD, told-none absent)
-    ∷ (fieldAnswer signature CertificateList 0 recordD, told-none absent)
-    ∷ (fieldAnswer signature ListedEntry 0 recordD, told-none absent)
-    ∷ (fieldAnswer signature Picture 0 recordD, told-none absent)
-    ∷ (fieldAnswer signature Width 0 recordD, told-none absent)
-    ∷ (fieldAnswer signature Height 0 recordD, told-none absent)
-    ∷ (fieldAnswer signature SealCustomData 0 recordD, told-none absent)
-    ∷ (fieldAnswer signature SealCustomItem 0 recordD, told-none absent)
-    ∷ (fieldAnswer signature SealCustomCritical 0 recordD, told-none absent)
-    ∷ (fieldAnswer signature Seal 0 recordD, told-none absent)
-    ∷ (fieldAnswer signature SignedCustomData 0 recordD, told-none absent)
-    ∷ (fieldAnswer signature SignedCustomItem 0 recordD, told-none absent)
-    ∷ (fieldAnswer signature SignedCustomCritical 0 recordD, told-none absent)
-    -- a seal by itself: its places count from its own start, and it has no field of the signed part
-    ∷ (fieldAnswer seal SealInformation 0 sealD, at 3 148)
-    ∷ (fieldAnswer seal SealSignedValue 0 sealD, at 168 2)
-    ∷ (fieldAnswer seal SigningTime 0 sealD, told-none absent)
-    -- "given record and digest, the first equal entry in the record"; PrintableStrings are not compared, and no bytes equal nothing
-    ∷ (matchAnswer signature (0xAA ∷ []) twice, at 41 1)
-    ∷ (matchAnswer signature (0xD1 ∷ 0xD2 ∷ []) recordD, at 58 2)
-    ∷ (matchAnswer signature (0xD1 ∷ []) recordD, told-none absent)
-    ∷ (matchAnswer signature (0x42 ∷ 0x6F ∷ []) recordD, told-none absent)
-    ∷ (matchAnswer signature [] recordD, told-none absent)
-    ∷ (matchAnswer seal (0xD3 ∷ []) sealD, at 59 1)
-    ∷ (matchAnswer signature (0xAA ∷ []) [], refusal item-missing 0)
-    ∷ []
-
-parts-of-D : asks partsD ≡ answers partsD
-unfolding evaluate
-parts-of-D = agreed partsD tt
-
--- "With a refusal, an absent field or no match, the part is empty, at the record's start"
-handings : handedOut (There 26 4) ∷ handedOut Absent ∷ handedOut (Refused bad-length 0) ∷ [] ≡ (26, 4) ∷ (0, 0) ∷ (0, 0) ∷ []
-handings = refl
 
 -- ---- the three slips of "Slips seen in other readers"
 
