@@ -1,11 +1,11 @@
 -- Every class of damage to a content is refused with its number, and the edges beside it are taken. Assumes nothing.
 use mathlib.Core.Path.{_≡_, refl}
-use Prim.Native.Nat.{ℕ, _-_, _^_}
+use Prim.Native.Nat.{ℕ, suc, zero, _+_, _-_, _^_}
 use mathlib.Core.Bool.{Bool, true, false}
 use mathlib.Core.List.{List, [], _∷_, _++_}
 use lib.ListN.{replicate}
 use lib.IntN.{ℤ, pos, negsuc}
-use Rattle.terms.specs.Numbers.{done, bad-integer, not-allowed, bad-character, bad-time, bad-identifier, bad-bits, bad-boolean, no-bytes}
+use Rattle.terms.specs.Numbers.{done, bad-integer, not-allowed, not-es, bad-character, bad-time, bad-identifier, bad-bits, bad-boolean, no-bytes}
 use Rattle.terms.specs.Answer.{pick, bind, need, every, enough, same, Told, refuses, told-none}
 use Rattle.terms.specs.Digits.{digits, numberFrom}
 use Rattle.terms.specs.Laws.Table.{Row, asks, answers, sameWhole, sameWholes, sameTold, agree, agreed}
@@ -13,11 +13,11 @@ use Rattle.contents.specs.Content.{toldCheck, ask, passes}
 use Rattle.contents.specs.Integer.{sign, shortest, wellFormed, turned, value, eight, shrink, contentOf, any, isKind, isMillimetres}
 use Rattle.contents.specs.Text.{within, starts, follows, textFrom, ia5, printable, utf8, partsFrom, isIdentifier}
 use Rattle.contents.specs.Time.{leap, monthLength, possible, isDigit, partFrom, zulu, timeFrom, timeCheck, timeRule, written, isReal}
-use Rattle.contents.specs.Rules.{integerRule, stringRule, octetsRule, bitsRule, identifierRule, booleanRule}
+use Rattle.contents.specs.Rules.{integerRule, stringRule, octetsRule, bitsRule, identifierRule, booleanRule, also, onlyRule, headerNameRule, versionRule}
 use Rattle.contents.specs.Leaves.{may-be-empty, needs-a-byte}
 
 evaluate : Unit {0}
-unfolding pick bind need every enough same sameWhole sameWholes sameTold agree digits numberFrom ask passes sign shortest wellFormed turned value eight shrink contentOf within starts follows textFrom partsFrom isIdentifier leap monthLength possible isDigit partFrom zulu timeFrom timeCheck timeRule written isReal integerRule stringRule octetsRule bitsRule identifierRule booleanRule
+unfolding pick bind need every enough same sameWhole sameWholes sameTold agree digits numberFrom ask passes sign shortest wellFormed turned value eight shrink contentOf within starts follows textFrom partsFrom isIdentifier leap monthLength possible isDigit partFrom zulu timeFrom timeCheck timeRule written isReal integerRule stringRule octetsRule bitsRule identifierRule booleanRule also onlyRule headerNameRule versionRule
 evaluate = tt
 
 -- a rule that refuses with a number
@@ -65,18 +65,20 @@ sizes =
     ∷ (toldCheck (integerRule isMillimetres (0x80 ∷ 0x00 ∷ 0x00 ∷ 0x00 ∷ 0x00 ∷ 0x00 ∷ 0x00 ∷ 0x00 ∷ [])), gets not-allowed)
     ∷ []
 
--- 9 by RFC 3629: overlong, surrogates, above 10FFFF, cut, a stray tail; every edge of its rows is taken
+-- 9 by RFC 3629, section 4: overlong, surrogates, above 10FFFF, cut, a stray tail; both edges of each of its rows are taken
 abbrev names : List Row
 names =
     (toldCheck (stringRule utf8 may-be-empty ([])), told-none done)
     ∷ (toldCheck (stringRule utf8 may-be-empty (0xE5 ∷ 0x8D ∷ 0xB0 ∷ [])), told-none done)
     ∷ (toldCheck (stringRule utf8 may-be-empty (0x00 ∷ 0x7F ∷ [])), told-none done)
     ∷ (toldCheck (stringRule utf8 may-be-empty (0xC2 ∷ 0x80 ∷ 0xDF ∷ 0xBF ∷ [])), told-none done)
-    ∷ (toldCheck (stringRule utf8 may-be-empty (0xE0 ∷ 0xA0 ∷ 0x80 ∷ [])), told-none done)
-    ∷ (toldCheck (stringRule utf8 may-be-empty (0xED ∷ 0x9F ∷ 0xBF ∷ [])), told-none done)
+    ∷ (toldCheck (stringRule utf8 may-be-empty (0xE0 ∷ 0xA0 ∷ 0x80 ∷ 0xE0 ∷ 0xBF ∷ 0xBF ∷ [])), told-none done)
+    ∷ (toldCheck (stringRule utf8 may-be-empty (0xE1 ∷ 0x80 ∷ 0x80 ∷ 0xEC ∷ 0xBF ∷ 0xBF ∷ [])), told-none done)
+    ∷ (toldCheck (stringRule utf8 may-be-empty (0xED ∷ 0x80 ∷ 0x80 ∷ 0xED ∷ 0x9F ∷ 0xBF ∷ [])), told-none done)
     ∷ (toldCheck (stringRule utf8 may-be-empty (0xEE ∷ 0x80 ∷ 0x80 ∷ 0xEF ∷ 0xBF ∷ 0xBF ∷ [])), told-none done)
-    ∷ (toldCheck (stringRule utf8 may-be-empty (0xF0 ∷ 0x90 ∷ 0x80 ∷ 0x80 ∷ [])), told-none done)
-    ∷ (toldCheck (stringRule utf8 may-be-empty (0xF4 ∷ 0x8F ∷ 0xBF ∷ 0xBF ∷ [])), told-none done)
+    ∷ (toldCheck (stringRule utf8 may-be-empty (0xF0 ∷ 0x90 ∷ 0x80 ∷ 0x80 ∷ 0xF0 ∷ 0xBF ∷ 0xBF ∷ 0xBF ∷ [])), told-none done)
+    ∷ (toldCheck (stringRule utf8 may-be-empty (0xF1 ∷ 0x80 ∷ 0x80 ∷ 0x80 ∷ 0xF2 ∷ 0x80 ∷ 0xBF ∷ 0x80 ∷ 0xF3 ∷ 0xBF ∷ 0xBF ∷ 0xBF ∷ [])), told-none done)
+    ∷ (toldCheck (stringRule utf8 may-be-empty (0xF4 ∷ 0x80 ∷ 0x80 ∷ 0x80 ∷ 0xF4 ∷ 0x8F ∷ 0xBF ∷ 0xBF ∷ [])), told-none done)
     ∷ (toldCheck (stringRule utf8 may-be-empty (0xEF ∷ 0xBB ∷ 0xBF ∷ [])), told-none done)
     ∷ (toldCheck (stringRule utf8 may-be-empty (0xC0 ∷ 0x80 ∷ [])), gets bad-character)
     ∷ (toldCheck (stringRule utf8 may-be-empty (0xC1 ∷ 0xBF ∷ [])), gets bad-character)
@@ -92,35 +94,67 @@ names =
     ∷ (toldCheck (stringRule utf8 may-be-empty (0xE5 ∷ 0x8D ∷ [])), gets bad-character)
     ∷ (toldCheck (stringRule utf8 may-be-empty (0x41 ∷ 0xC2 ∷ [])), gets bad-character)
     ∷ (toldCheck (stringRule utf8 may-be-empty (0xE5 ∷ 0x8D ∷ 0x41 ∷ [])), gets bad-character)
+    -- a byte below 80 or above BF where a character goes on, in each row
+    ∷ (toldCheck (stringRule utf8 may-be-empty (0xC2 ∷ 0x7F ∷ [])), gets bad-character)
+    ∷ (toldCheck (stringRule utf8 may-be-empty (0xDF ∷ 0xC0 ∷ [])), gets bad-character)
+    ∷ (toldCheck (stringRule utf8 may-be-empty (0xE0 ∷ 0xA0 ∷ 0x7F ∷ [])), gets bad-character)
+    ∷ (toldCheck (stringRule utf8 may-be-empty (0xE0 ∷ 0xBF ∷ 0xC0 ∷ [])), gets bad-character)
+    ∷ (toldCheck (stringRule utf8 may-be-empty (0xE0 ∷ 0xC0 ∷ 0x80 ∷ [])), gets bad-character)
+    ∷ (toldCheck (stringRule utf8 may-be-empty (0xE1 ∷ 0x7F ∷ 0x80 ∷ [])), gets bad-character)
+    ∷ (toldCheck (stringRule utf8 may-be-empty (0xEC ∷ 0xC0 ∷ 0x80 ∷ [])), gets bad-character)
+    ∷ (toldCheck (stringRule utf8 may-be-empty (0xE1 ∷ 0x80 ∷ 0x7F ∷ [])), gets bad-character)
+    ∷ (toldCheck (stringRule utf8 may-be-empty (0xEC ∷ 0xBF ∷ 0xC0 ∷ [])), gets bad-character)
+    ∷ (toldCheck (stringRule utf8 may-be-empty (0xED ∷ 0x7F ∷ 0x80 ∷ [])), gets bad-character)
+    ∷ (toldCheck (stringRule utf8 may-be-empty (0xED ∷ 0x80 ∷ 0x7F ∷ [])), gets bad-character)
+    ∷ (toldCheck (stringRule utf8 may-be-empty (0xED ∷ 0x9F ∷ 0xC0 ∷ [])), gets bad-character)
+    ∷ (toldCheck (stringRule utf8 may-be-empty (0xEE ∷ 0x7F ∷ 0x80 ∷ [])), gets bad-character)
+    ∷ (toldCheck (stringRule utf8 may-be-empty (0xEF ∷ 0xC0 ∷ 0x80 ∷ [])), gets bad-character)
+    ∷ (toldCheck (stringRule utf8 may-be-empty (0xEE ∷ 0x80 ∷ 0x7F ∷ [])), gets bad-character)
+    ∷ (toldCheck (stringRule utf8 may-be-empty (0xEF ∷ 0xBF ∷ 0xC0 ∷ [])), gets bad-character)
+    ∷ (toldCheck (stringRule utf8 may-be-empty (0xF0 ∷ 0xC0 ∷ 0x80 ∷ 0x80 ∷ [])), gets bad-character)
+    ∷ (toldCheck (stringRule utf8 may-be-empty (0xF0 ∷ 0x90 ∷ 0x7F ∷ 0x80 ∷ [])), gets bad-character)
+    ∷ (toldCheck (stringRule utf8 may-be-empty (0xF0 ∷ 0xBF ∷ 0xC0 ∷ 0x80 ∷ [])), gets bad-character)
+    ∷ (toldCheck (stringRule utf8 may-be-empty (0xF0 ∷ 0x90 ∷ 0x80 ∷ 0x7F ∷ [])), gets bad-character)
+    ∷ (toldCheck (stringRule utf8 may-be-empty (0xF0 ∷ 0xBF ∷ 0xBF ∷ 0xC0 ∷ [])), gets bad-character)
+    ∷ (toldCheck (stringRule utf8 may-be-empty (0xF1 ∷ 0x7F ∷ 0x80 ∷ 0x80 ∷ [])), gets bad-character)
+    ∷ (toldCheck (stringRule utf8 may-be-empty (0xF3 ∷ 0xC0 ∷ 0x80 ∷ 0x80 ∷ [])), gets bad-character)
+    ∷ (toldCheck (stringRule utf8 may-be-empty (0xF1 ∷ 0x80 ∷ 0x7F ∷ 0x80 ∷ [])), gets bad-character)
+    ∷ (toldCheck (stringRule utf8 may-be-empty (0xF3 ∷ 0xBF ∷ 0xC0 ∷ 0x80 ∷ [])), gets bad-character)
+    ∷ (toldCheck (stringRule utf8 may-be-empty (0xF1 ∷ 0x80 ∷ 0x80 ∷ 0x7F ∷ [])), gets bad-character)
+    ∷ (toldCheck (stringRule utf8 may-be-empty (0xF3 ∷ 0xBF ∷ 0xBF ∷ 0xC0 ∷ [])), gets bad-character)
+    ∷ (toldCheck (stringRule utf8 may-be-empty (0xF4 ∷ 0x7F ∷ 0x80 ∷ 0x80 ∷ [])), gets bad-character)
+    ∷ (toldCheck (stringRule utf8 may-be-empty (0xF4 ∷ 0x80 ∷ 0x7F ∷ 0x80 ∷ [])), gets bad-character)
+    ∷ (toldCheck (stringRule utf8 may-be-empty (0xF4 ∷ 0x8F ∷ 0xC0 ∷ 0x80 ∷ [])), gets bad-character)
+    ∷ (toldCheck (stringRule utf8 may-be-empty (0xF4 ∷ 0x80 ∷ 0x80 ∷ 0x7F ∷ [])), gets bad-character)
+    ∷ (toldCheck (stringRule utf8 may-be-empty (0xF4 ∷ 0x8F ∷ 0xBF ∷ 0xC0 ∷ [])), gets bad-character)
     ∷ []
 
--- 9 by X.680: every other character is refused
+abbrev inPrintable : List ℕ → Told
+inPrintable c = toldCheck (stringRule printable may-be-empty c)
+
+-- `n` bytes from `a` on
+abbrev bytesFrom : ℕ → ℕ → List ℕ
+bytesFrom a zero = []
+bytesFrom a (suc n) = a ∷ bytesFrom (a + 1) n
+
+abbrev refusedEach : List ℕ → List Row
+refusedEach [] = []
+refusedEach (b ∷ bs) = (inPrintable (b ∷ []), gets bad-character) ∷ refusedEach bs
+
+-- 9, "PrintableString as X.680": its 74 characters are taken, and each other byte, alone, is refused
 abbrev printables : List Row
 printables =
-    (toldCheck (stringRule printable may-be-empty ([])), told-none done)
-    ∷ (toldCheck (stringRule printable may-be-empty (0x41 ∷ 0x5A ∷ 0x61 ∷ 0x7A ∷ 0x30 ∷ 0x39 ∷ 0x20 ∷ 0x27 ∷ 0x28 ∷ 0x29 ∷ 0x2B ∷ 0x2C ∷ 0x2D ∷ 0x2E ∷ 0x2F ∷ 0x3A ∷ 0x3D ∷ 0x3F ∷ [])), told-none done)
-    ∷ (toldCheck (stringRule printable may-be-empty (0x2A ∷ [])), gets bad-character)
-    ∷ (toldCheck (stringRule printable may-be-empty (0x40 ∷ [])), gets bad-character)
-    ∷ (toldCheck (stringRule printable may-be-empty (0x26 ∷ [])), gets bad-character)
-    ∷ (toldCheck (stringRule printable may-be-empty (0x5F ∷ [])), gets bad-character)
-    ∷ (toldCheck (stringRule printable may-be-empty (0x21 ∷ [])), gets bad-character)
-    ∷ (toldCheck (stringRule printable may-be-empty (0x22 ∷ [])), gets bad-character)
-    ∷ (toldCheck (stringRule printable may-be-empty (0x3B ∷ [])), gets bad-character)
-    ∷ (toldCheck (stringRule printable may-be-empty (0x3C ∷ [])), gets bad-character)
-    ∷ (toldCheck (stringRule printable may-be-empty (0x3E ∷ [])), gets bad-character)
-    ∷ (toldCheck (stringRule printable may-be-empty (0x5B ∷ [])), gets bad-character)
-    ∷ (toldCheck (stringRule printable may-be-empty (0x60 ∷ [])), gets bad-character)
-    ∷ (toldCheck (stringRule printable may-be-empty (0x7B ∷ [])), gets bad-character)
-    ∷ (toldCheck (stringRule printable may-be-empty (0x23 ∷ [])), gets bad-character)
-    ∷ (toldCheck (stringRule printable may-be-empty (0x24 ∷ [])), gets bad-character)
-    ∷ (toldCheck (stringRule printable may-be-empty (0x25 ∷ [])), gets bad-character)
-    ∷ (toldCheck (stringRule printable may-be-empty (0x5E ∷ [])), gets bad-character)
-    ∷ (toldCheck (stringRule printable may-be-empty (0x7C ∷ [])), gets bad-character)
-    ∷ (toldCheck (stringRule printable may-be-empty (0x7E ∷ [])), gets bad-character)
-    ∷ (toldCheck (stringRule printable may-be-empty (0x5C ∷ [])), gets bad-character)
-    ∷ (toldCheck (stringRule printable may-be-empty (0x7F ∷ [])), gets bad-character)
-    ∷ (toldCheck (stringRule printable may-be-empty (0x80 ∷ [])), gets bad-character)
-    ∷ []
+    (inPrintable [], told-none done)
+    -- A to Z, a to z, 0 to 9
+    ∷ (inPrintable (bytesFrom 0x41 26), told-none done)
+    ∷ (inPrintable (bytesFrom 0x61 26), told-none done)
+    ∷ (inPrintable (bytesFrom 0x30 10), told-none done)
+    -- space ' ( ) + , - . / : = ?
+    ∷ (inPrintable (0x20 ∷ 0x27 ∷ 0x28 ∷ 0x29 ∷ 0x2B ∷ 0x2C ∷ 0x2D ∷ 0x2E ∷ 0x2F ∷ 0x3A ∷ 0x3D ∷ 0x3F ∷ []), told-none done)
+    -- one that is refused after one that is taken
+    ∷ (inPrintable (0x41 ∷ 0x2A ∷ []), gets bad-character)
+    -- 00 to 1F, 21 to 26, 2A, 3B and 3C, 3E, 40, 5B to 60, 7B to FF
+    ∷ refusedEach (bytesFrom 0x00 32 ++ bytesFrom 0x21 6 ++ (0x2A ∷ 0x3B ∷ 0x3C ∷ 0x3E ∷ 0x40 ∷ []) ++ bytesFrom 0x5B 6 ++ bytesFrom 0x7B 133)
 
 -- 9 above 7F
 abbrev ia5s : List Row
@@ -151,6 +185,31 @@ abbrev values : List Row
 values =
     (toldCheck (octetsRule may-be-empty ([])), told-none done)
     ∷ (toldCheck (octetsRule may-be-empty (0xFF ∷ [])), told-none done)
+    ∷ []
+
+-- "IA5String "ES"": "14 and 9 before 8"
+abbrev headerNames : List Row
+headerNames =
+    (toldCheck (headerNameRule (0x45 ∷ 0x53 ∷ [])), told-none done)
+    ∷ (toldCheck (headerNameRule (0x45 ∷ 0x58 ∷ [])), gets not-es)
+    ∷ (toldCheck (headerNameRule (0x65 ∷ 0x73 ∷ [])), gets not-es)
+    ∷ (toldCheck (headerNameRule (0x53 ∷ 0x45 ∷ [])), gets not-es)
+    ∷ (toldCheck (headerNameRule (0x45 ∷ [])), gets not-es)
+    ∷ (toldCheck (headerNameRule (0x45 ∷ 0x53 ∷ 0x00 ∷ [])), gets not-es)
+    ∷ (toldCheck (headerNameRule ([])), gets no-bytes)
+    ∷ (toldCheck (headerNameRule (0x45 ∷ 0xD3 ∷ [])), gets bad-character)
+    ∷ []
+
+-- "INTEGER 4": "6 before 7"
+abbrev versions : List Row
+versions =
+    (toldCheck (versionRule (0x04 ∷ [])), told-none done)
+    ∷ (toldCheck (versionRule (0x03 ∷ [])), gets not-allowed)
+    ∷ (toldCheck (versionRule (0x05 ∷ [])), gets not-allowed)
+    ∷ (toldCheck (versionRule (0xFC ∷ [])), gets not-allowed)
+    ∷ (toldCheck (versionRule (0x04 ∷ 0x04 ∷ [])), gets not-allowed)
+    ∷ (toldCheck (versionRule (0x00 ∷ 0x04 ∷ [])), gets bad-integer)
+    ∷ (toldCheck (versionRule ([])), gets bad-integer)
     ∷ []
 
 -- 12 before 14
@@ -233,6 +292,13 @@ times =
     ∷ (toldCheck (timeRule (0x32 ∷ 0x30 ∷ 0x32 ∷ 0x33 ∷ 0x30 ∷ 0x31 ∷ 0x30 ∷ 0x31 ∷ 0x30 ∷ 0x30 ∷ 0x30 ∷ 0x30 ∷ 0x30 ∷ 0x30 ∷ 0x2E ∷ 0x35 ∷ 0x5A ∷ [])), gets bad-time)
     ∷ (toldCheck (timeRule (0x32 ∷ 0x30 ∷ 0x32 ∷ 0x33 ∷ 0x30 ∷ 0x31 ∷ 0x30 ∷ 0x31 ∷ 0x30 ∷ 0x30 ∷ 0x30 ∷ 0x30 ∷ 0x30 ∷ 0x3A ∷ 0x5A ∷ [])), gets bad-time)
     ∷ (toldCheck (timeRule (0x32 ∷ 0x30 ∷ 0x32 ∷ 0x33 ∷ 0x30 ∷ 0x31 ∷ 0x30 ∷ 0x31 ∷ 0x30 ∷ 0x30 ∷ 0x30 ∷ 0x30 ∷ 0x30 ∷ 0x2F ∷ 0x5A ∷ [])), gets bad-time)
+    -- the thirty-second of each other month of 31 days
+    ∷ (toldCheck (timeRule (0x32 ∷ 0x30 ∷ 0x32 ∷ 0x33 ∷ 0x30 ∷ 0x33 ∷ 0x33 ∷ 0x32 ∷ 0x30 ∷ 0x30 ∷ 0x30 ∷ 0x30 ∷ 0x30 ∷ 0x30 ∷ 0x5A ∷ [])), gets bad-time)
+    ∷ (toldCheck (timeRule (0x32 ∷ 0x30 ∷ 0x32 ∷ 0x33 ∷ 0x30 ∷ 0x35 ∷ 0x33 ∷ 0x32 ∷ 0x30 ∷ 0x30 ∷ 0x30 ∷ 0x30 ∷ 0x30 ∷ 0x30 ∷ 0x5A ∷ [])), gets bad-time)
+    ∷ (toldCheck (timeRule (0x32 ∷ 0x30 ∷ 0x32 ∷ 0x33 ∷ 0x30 ∷ 0x37 ∷ 0x33 ∷ 0x32 ∷ 0x30 ∷ 0x30 ∷ 0x30 ∷ 0x30 ∷ 0x30 ∷ 0x30 ∷ 0x5A ∷ [])), gets bad-time)
+    ∷ (toldCheck (timeRule (0x32 ∷ 0x30 ∷ 0x32 ∷ 0x33 ∷ 0x30 ∷ 0x38 ∷ 0x33 ∷ 0x32 ∷ 0x30 ∷ 0x30 ∷ 0x30 ∷ 0x30 ∷ 0x30 ∷ 0x30 ∷ 0x5A ∷ [])), gets bad-time)
+    ∷ (toldCheck (timeRule (0x32 ∷ 0x30 ∷ 0x32 ∷ 0x33 ∷ 0x31 ∷ 0x30 ∷ 0x33 ∷ 0x32 ∷ 0x30 ∷ 0x30 ∷ 0x30 ∷ 0x30 ∷ 0x30 ∷ 0x30 ∷ 0x5A ∷ [])), gets bad-time)
+    ∷ (toldCheck (timeRule (0x32 ∷ 0x30 ∷ 0x32 ∷ 0x33 ∷ 0x31 ∷ 0x32 ∷ 0x33 ∷ 0x32 ∷ 0x30 ∷ 0x30 ∷ 0x30 ∷ 0x30 ∷ 0x30 ∷ 0x30 ∷ 0x5A ∷ [])), gets bad-time)
     ∷ (toldCheck (timeRule ([])), gets bad-time)
     ∷ (toldCheck (timeRule (0x5A ∷ [])), gets bad-time)
     ∷ []
@@ -240,7 +306,7 @@ times =
 -- ---- one statement over all of them
 
 abbrev examples : List Row
-examples = integers ++ kinds ++ sizes ++ names ++ printables ++ ia5s ++ empties ++ octets ++ values ++ bitStrings ++ booleans ++ identifiers ++ times
+examples = integers ++ kinds ++ sizes ++ versions ++ names ++ printables ++ ia5s ++ empties ++ headerNames ++ octets ++ values ++ bitStrings ++ booleans ++ identifiers ++ times
 
 all-examples : asks examples ≡ answers examples
 unfolding evaluate

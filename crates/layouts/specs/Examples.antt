@@ -1,12 +1,12 @@
 -- A small layout with an optional list, a choice and a flag, evaluated. Assumes nothing.
-use mathlib.Core.Path.{_≡_}
+use mathlib.Core.Path.{_≡_, refl}
 use Prim.Native.Nat.{ℕ}
 use mathlib.Core.Bool.{true}
-use mathlib.Core.List.{List, [], _∷_}
-use lib.ListN.{length}
+use mathlib.Core.List.{List, [], _∷_, _++_}
+use lib.ListN.{length, replicate, set, take, drop}
 use Rattle.terms.specs.declared.Field.the-variants.{ListKind, CertificateList, ListedDigest, SealCustomData, SealCustomItem, SealCustomCritical}
-use Rattle.terms.specs.Numbers.{done, other-tag, bad-boolean, left-over, too-many-items}
-use Rattle.terms.specs.Answer.{pick, bind, need, have, every, enough, same, Told, told-one, refusal, answered}
+use Rattle.terms.specs.Numbers.{done, other-tag, bad-boolean, left-over, too-many-items, too-large, bad-sheet, no-room}
+use Rattle.terms.specs.Answer.{good, pick, bind, need, have, every, enough, same, Told, told-one, refusal, answered}
 use Rattle.terms.specs.Digits.{digits, numberFrom, leading}
 use Rattle.terms.specs.Laws.Table.{Row, asks, answers, sameWhole, sameWholes, sameTold, agree, agreed}
 use Rattle.heads.specs.Head.{spell, octets, tlv, unspell, size, opening, cut, head, outermost}
@@ -16,10 +16,10 @@ use Rattle.contents.specs.Leaves.{needs-a-byte, octetString}
 use Rattle.layouts.specs.Layout.{Members, end, _▸_, leaf, node, list, one, maybe, flag, choose, each, option, either, critical, encode}
 use Rattle.layouts.specs.Reading.{readBy, begins, finish, many, readOption, readFlag, readEither, read}
 use Rattle.layouts.specs.Sheet.{count, section, bit, sheetOption, sheetList, sheet, readCount, readSection, fillLeaf, times, unbit, fillFlag, fillOption, fillList, fill}
-use Rattle.layouts.specs.Whole.{sequence, recordOf, recordAt, accept, finishSheet, acceptSheet, fit, fillSheet, writeRecord}
+use Rattle.layouts.specs.Whole.{sequence, recordOf, recordAt, accept, finishSheet, acceptSheet, fit, fillSheet, writeRecord, stored}
 
 evaluate : Unit {0}
-unfolding pick bind need have every enough same sameWhole sameWholes sameTold agree digits numberFrom leading spell octets tlv unspell size opening cut head outermost ask placeOf judge octetsRule booleanRule each option either critical encode readBy begins finish many readOption readFlag readEither read count section bit sheetOption sheetList sheet readCount readSection fillLeaf times unbit fillFlag fillOption fillList fill recordAt accept finishSheet acceptSheet fit fillSheet writeRecord
+unfolding pick bind need have every enough same sameWhole sameWholes sameTold agree digits numberFrom leading spell octets tlv unspell size opening cut head outermost ask placeOf judge octetsRule booleanRule each option either critical encode readBy begins finish many readOption readFlag readEither read count section bit sheetOption sheetList sheet readCount readSection fillLeaf times unbit fillFlag fillOption fillList fill recordAt accept finishSheet acceptSheet fit fillSheet writeRecord stored
 evaluate = tt
 
 -- an octet string, by which a second one or a SEQUENCE of one follows, then a flag, then up to two octet strings in a list, optional
@@ -61,3 +61,77 @@ rows =
 small-records : asks rows ≡ answers rows
 unfolding evaluate
 small-records = agreed rows tt
+
+-- ---- a sheet and its record, byte by byte
+
+-- the flag, and a list of B1 and B2
+abbrev full : List ℕ
+full = of1 17 (0x01 ∷ 0x01 ∷ 0xFF ∷ 0x30 ∷ 0x06 ∷ 0x04 ∷ 0x01 ∷ 0xB1 ∷ 0x04 ∷ 0x01 ∷ 0xB2 ∷ [])
+
+-- "each after its count, four bytes, big-endian", "critical, of one byte 0 or 1", "A list's count is its items", "An optional field has count 0 or 1"
+abbrev fullSheet : List ℕ
+fullSheet =
+    0x00 ∷ 0x00 ∷ 0x00 ∷ 0x01 ∷ 0x01  -- the first string
+    ∷ 0x00 ∷ 0x00 ∷ 0x00 ∷ 0x01 ∷ 0xAA  -- the second
+    ∷ 0x00 ∷ 0x00 ∷ 0x00 ∷ 0x01 ∷ 0x01  -- the flag
+    ∷ 0x00 ∷ 0x00 ∷ 0x00 ∷ 0x01  -- the optional list: present
+    ∷ 0x00 ∷ 0x00 ∷ 0x00 ∷ 0x02  -- its two items
+    ∷ 0x00 ∷ 0x00 ∷ 0x00 ∷ 0x01 ∷ 0xB1
+    ∷ 0x00 ∷ 0x00 ∷ 0x00 ∷ 0x01 ∷ 0xB2
+    ∷ []
+
+-- no flag, no list
+abbrev bareSheet : List ℕ
+bareSheet = take 10 fullSheet ++ 0x00 ∷ 0x00 ∷ 0x00 ∷ 0x01 ∷ 0x00 ∷ 0x00 ∷ 0x00 ∷ 0x00 ∷ 0x00 ∷ []
+
+full-filled : fillSheet 100 small full 33 ≡ good fullSheet
+unfolding evaluate
+full-filled = refl
+
+full-written : writeRecord 100 small fullSheet 19 ≡ good full
+unfolding evaluate
+full-written = refl
+
+bare-filled : fillSheet 100 small (of1 6 []) 19 ≡ good bareSheet
+unfolding evaluate
+bare-filled = refl
+
+bare-written : writeRecord 100 small bareSheet 8 ≡ good (of1 6 [])
+unfolding evaluate
+bare-written = refl
+
+-- "on success only the reported number of first bytes changes"
+front-stored : stored (writeRecord 100 small bareSheet 10) (0x91 ∷ 0x92 ∷ 0x93 ∷ 0x94 ∷ 0x95 ∷ 0x96 ∷ 0x97 ∷ 0x98 ∷ 0x99 ∷ 0x9A ∷ []) ≡ of1 6 (0x99 ∷ 0x9A ∷ [])
+unfolding evaluate
+front-stored = refl
+
+-- ---- a writer's answers
+
+-- the bytes of a record that a sheet gives: at most `most`, into `room`
+abbrev written : ℕ → List ℕ → ℕ → Told
+written most x room = answered (λ w. length w) (writeRecord most small x room)
+
+-- "A writer reads the whole sheet first, then 17, then 20."
+abbrev writings : List Row
+writings =
+    (written 19 fullSheet 19, told-one done 19)
+    ∷ (written 19 fullSheet 18, refusal no-room 19)
+    ∷ (written 18 fullSheet 19, refusal too-large 0)
+    ∷ (written 18 fullSheet 18, refusal too-large 0)
+    ∷ (written 18 (fullSheet ++ 0x00 ∷ []) 18, refusal bad-sheet 33)
+    -- 19: cut, the flag's count and byte, the optional's count; 16 at the list's count
+    ∷ (written 100 (take 32 fullSheet) 100, refusal bad-sheet 28)
+    ∷ (written 100 (take 22 fullSheet) 100, refusal bad-sheet 19)
+    ∷ (written 100 (set fullSheet 13 0x02) 100, refusal bad-sheet 10)
+    ∷ (written 100 (set fullSheet 14 0x02) 100, refusal bad-sheet 10)
+    ∷ (written 100 (set fullSheet 18 0x02) 100, refusal bad-sheet 15)
+    ∷ (written 100 (set fullSheet 22 0x03) 100, refusal too-many-items 19)
+    -- a second string of 65,536 bytes, whose length no record can have
+    ∷ (written 65535 (take 5 bareSheet ++ 0x00 ∷ 0x01 ∷ 0x00 ∷ 0x00 ∷ replicate 65536 0x5A ++ drop 10 bareSheet) 100, refusal too-large 0)
+    -- a list of none, and behind it what was its items
+    ∷ (written 100 (set fullSheet 22 0x00) 100, refusal bad-sheet 23)
+    ∷ []
+
+small-sheets : asks writings ≡ answers writings
+unfolding evaluate
+small-sheets = agreed writings tt

@@ -1,4 +1,7 @@
--- Records S and D, evaluated. Assumes nothing.
+-- Records S and D, evaluated; `Parts`, `Sheets` and `Refusals` have more of them. Assumes nothing.
+pub mod Parts
+pub mod Sheets
+pub mod Refusals
 use mathlib.Core.Path.{_≡_, refl}
 use Prim.Native.Nat.{ℕ}
 use mathlib.Core.Bool.{Bool, true, _&&_}
@@ -7,10 +10,10 @@ use mathlib.Core.List.{List, [], _∷_, _++_}
 use lib.ListN.{replicate, set, take, drop}
 use lib.IntN.{ℤ, pos, negsuc}
 use Rattle.terms.specs.declared.Field.{Field}
-use Rattle.terms.specs.declared.Field.the-variants.{SealInformation, Seal, Vendor, SealId, SealType, SealName, ListKind, CertificateList, ListedCertificate, ListedName, ListedDigest, Created, Start, End, Picture, PictureType, PictureData, Width, Height, SealCustomData, SealCustomId, SealCustomCritical, SealCustomValue, MakerCertificate, SealAlgorithm, SealSignedValue, SignedPart, SigningTime, OriginalDigest, PropertyText, SignedCustomData, SignedCustomId, SignedCustomCritical, SignedCustomValue, SignerCertificate, SignatureAlgorithm, SignatureValue, Stamp}
+use Rattle.terms.specs.declared.Field.the-variants.{SealInformation, Seal, Vendor, SealId, SealType, SealName, ListKind, CertificateList, ListedCertificate, ListedName, ListedDigest, Created, Start, End, PictureType, PictureData, Width, Height, SealCustomData, SealCustomId, SealCustomCritical, SealCustomValue, MakerCertificate, SealAlgorithm, SealSignedValue, SignedPart, SigningTime, OriginalDigest, PropertyText, SignedCustomData, SignedCustomId, SignedCustomCritical, SignedCustomValue, SignerCertificate, SignatureAlgorithm, SignatureValue, Stamp}
 use Rattle.terms.specs.Names.{code, sameName}
 use Rattle.terms.specs.Numbers.{done, absent, other-tag, bad-boolean, left-over, bad-length, item-missing}
-use Rattle.terms.specs.Answer.{pick, bind, need, have, every, enough, same, Told, gives, told-one, told-two, told-none, refusal}
+use Rattle.terms.specs.Answer.{Res, good, fault, pick, bind, need, have, every, enough, same, Told, gives, told-one, told-two, told-none, refusal}
 use Rattle.terms.specs.Laws.Table.{Row, asks, answers, sameWhole, sameWholes, sameTold, agree, agreed}
 use Rattle.terms.specs.Digits.{digits, numberFrom, leading}
 use Rattle.heads.specs.Head.{spell, octets, tlv, unspell, size, opening, cut, head, outermost}
@@ -19,22 +22,22 @@ use Rattle.contents.specs.Integer.{sign, shortest, wellFormed, turned, value, s
 use Rattle.contents.specs.Text.{within, starts, follows, textFrom, partsFrom, isIdentifier}
 use Rattle.contents.specs.Time.{leap, monthLength, possible, isDigit, partFrom, zulu, timeFrom, timeCheck, timeRule}
 use Rattle.contents.specs.Rules.{integerRule, stringRule, octetsRule, bitsRule, identifierRule, booleanRule, also, onlyRule}
-use Rattle.layouts.specs.Layout.{each, option, either, critical, encode}
+use Rattle.layouts.specs.Layout.{Members, Values, each, option, either, critical, encode}
 use Rattle.layouts.specs.Reading.{readBy, begins, finish, many, readOption, readFlag, readEither, read}
 use Rattle.layouts.specs.Sheet.{count, section, bit, sheetOption, sheetList, sheet, readCount, readSection, fillLeaf, times, unbit, fillFlag, fillOption, fillList, fill}
-use Rattle.layouts.specs.Whole.{recordAt, accept, finishSheet, acceptSheet, fit, fillSheet, writeRecord}
+use Rattle.layouts.specs.Whole.{recordAt, accept, finishSheet, acceptSheet, fit, fillSheet, writeRecord, stored}
 use Rattle.layouts.specs.Fields.{Entry, eachFields, optionFields, eitherFields, flagFields, itemFields, fields, isField, first, bytesIn, isThere}
 use Rattle.layouts.specs.Places.{numbersOf}
 use Rattle.records.specs.Record.{seal, signature}
-use Rattle.records.specs.Handing.{fieldsIn, recordAnswer, fillAnswer, writeAnswer, fieldAnswer, isListed, matchAnswer, isOneOf, valueAnswer, criticalAnswer, countAnswer}
+use Rattle.records.specs.Handing.{readRecord, fieldsIn, recordAnswer, fillAnswer, fillAfter, writeAnswer, writeAfter, fieldAnswer, isListed, matchAnswer, isOneOf, valueAnswer, criticalAnswer, countAnswer, signedBytes}
 use Rattle.records.specs.Samples.{recordS, recordD}
 
 -- to name this one on a line is to name all that a reading, a sheet and a handing out compute with
 unfoldable pub evaluate : Unit {0}
-unfolding code sameName pick bind need have every enough same digits numberFrom leading spell octets tlv unspell size opening cut head outermost ask passes placeOf judge sign shortest wellFormed turned value shrink signOf stretch unstretch within starts follows textFrom partsFrom isIdentifier leap monthLength possible isDigit partFrom zulu timeFrom timeCheck timeRule integerRule stringRule octetsRule bitsRule identifierRule booleanRule also onlyRule each option either critical encode readBy begins finish many readOption readFlag readEither read count section bit sheetOption sheetList sheet readCount readSection fillLeaf times unbit fillFlag fillOption fillList fill recordAt accept finishSheet acceptSheet fit fillSheet writeRecord eachFields optionFields eitherFields flagFields itemFields fields isField first bytesIn isThere recordAnswer fillAnswer writeAnswer fieldsIn fieldAnswer isListed matchAnswer isOneOf valueAnswer criticalAnswer countAnswer sameWhole sameWholes sameTold agree
+unfolding code sameName pick bind need have every enough same digits numberFrom leading spell octets tlv unspell size opening cut head outermost ask passes placeOf judge sign shortest wellFormed turned value shrink signOf stretch unstretch within starts follows textFrom partsFrom isIdentifier leap monthLength possible isDigit partFrom zulu timeFrom timeCheck timeRule integerRule stringRule octetsRule bitsRule identifierRule booleanRule also onlyRule each option either critical encode readBy begins finish many readOption readFlag readEither read count section bit sheetOption sheetList sheet readCount readSection fillLeaf times unbit fillFlag fillOption fillList fill recordAt accept finishSheet acceptSheet fit fillSheet writeRecord stored eachFields optionFields eitherFields flagFields itemFields fields isField first bytesIn isThere recordAnswer fillAnswer fillAfter writeAnswer writeAfter fieldsIn fieldAnswer isListed matchAnswer isOneOf valueAnswer criticalAnswer countAnswer sameWhole sameWholes sameTold agree
 evaluate = tt
 
-abbrev at : ℕ → ℕ → Told
+abbrev pub at : ℕ → ℕ → Told
 at a n = told-two done a n
 
 abbrev whole : ℤ → Told
@@ -43,8 +46,12 @@ whole z = gives done (z ∷ [])
 -- ---- the sizes of S, its signed bytes, and the check program's four lines
 
 -- the seal of S: 115 bytes from offset 9
-abbrev sealS : List ℕ
+abbrev pub sealS : List ℕ
 sealS = take 115 (drop 9 recordS)
+
+-- the seal of D: 170 bytes from offset 9
+abbrev pub sealD : List ℕ
+sealD = take 170 (drop 9 recordD)
 
 abbrev plenty : List ℕ
 plenty = replicate 300 0x5A
@@ -67,6 +74,19 @@ numbersS =
 numbers-of-S : asks numbersS ≡ answers numbersS
 unfolding evaluate
 numbers-of-S = agreed numbersS tt
+
+-- "Signed bytes are the signed part, or the seal information, with its own tag and length."
+abbrev signedIn : Field → (r : Members) → Res (Values r) → List ℕ
+signedIn f r (good v) = signedBytes f r v
+signedIn f r (fault n p) = []
+
+signed-bytes-of-S : signedIn SignedPart signature (readRecord signature recordS) ≡ take 145 (drop 3 recordS)
+unfolding evaluate signedBytes
+signed-bytes-of-S = refl
+
+sealed-bytes-of-S : signedIn SealInformation seal (readRecord seal sealS) ≡ take 96 (drop 11 recordS)
+unfolding evaluate signedBytes
+sealed-bytes-of-S = refl
 
 -- where some of its parts stand: whether, start, length, items
 abbrev placesS : List (Field × List ℕ)
@@ -185,9 +205,6 @@ answersD =
     ∷ (fieldAnswer signature ListedCertificate 0 recordD, told-none absent)
     ∷ (fieldAnswer signature ListedDigest 2 recordD, told-none absent)
     ∷ (fieldAnswer signature Stamp 0 recordS, told-none absent)
-    ∷ (fieldAnswer signature Width 0 recordD, told-none absent)
-    ∷ (fieldAnswer signature Picture 0 recordD, told-none absent)
-    ∷ (fieldAnswer signature SealCustomCritical 0 recordD, told-none absent)
     ∷ (fieldAnswer signature Vendor 0 (0x30 ∷ 0x80 ∷ []), refusal bad-length 0)
     ∷ []
 
