@@ -4,7 +4,7 @@ use Prim.Native.Nat.{ℕ}
 use mathlib.Core.Bool.{true}
 use mathlib.Core.List.{List, [], _∷_}
 use lib.IntN.{negsuc}
-use Rattle.terms.specs.Numbers.{done, bad-length, bad-integer, bad-character, bad-time, bad-identifier, valid, signer-revoked}
+use Rattle.terms.specs.Numbers.{done}
 use Rattle.terms.specs.Answer.{Res, good, fault, Got, Told, gives, refuses, told-none, told-one, refusal, answered}
 use Rattle.terms.specs.Laws.Table.{Row, asks, answers, agreed}
 use Rattle.heads.specs.Head.{size}
@@ -44,23 +44,23 @@ P =
     -- P1 02 01 80 is -128. P2 02 02 00 80 is 128. P3 02 02 FF 80 gets 6.
     (anInteger (0x02 ∷ 0x01 ∷ 0x80 ∷ []), gives done (negsuc 127 ∷ []))
     ∷ (anInteger (0x02 ∷ 0x02 ∷ 0x00 ∷ 0x80 ∷ []), told-one done 128)
-    ∷ (anInteger (0x02 ∷ 0x02 ∷ 0xFF ∷ 0x80 ∷ []), refusal bad-integer 0)
+    ∷ (anInteger (0x02 ∷ 0x02 ∷ 0xFF ∷ 0x80 ∷ []), refusal 6 0)
     -- P4 length 81 7F gets 3. P5 82 01 00 is 256.
-    ∷ (aLength (0x81 ∷ 0x7F ∷ []), refusal bad-length 0)
+    ∷ (aLength (0x81 ∷ 0x7F ∷ []), refusal 3 0)
     ∷ (aLength (0x82 ∷ 0x01 ∷ 0x00 ∷ []), told-one done 256)
     -- P6 20000229000000Z is taken. P7 19000229000000Z gets 10.
     ∷ (aContent generalizedTime (0x32 ∷ 0x30 ∷ 0x30 ∷ 0x30 ∷ 0x30 ∷ 0x32 ∷ 0x32 ∷ 0x39 ∷ 0x30 ∷ 0x30 ∷ 0x30 ∷ 0x30 ∷ 0x30 ∷ 0x30 ∷ 0x5A ∷ []), taken)
-    ∷ (aContent generalizedTime (0x31 ∷ 0x39 ∷ 0x30 ∷ 0x30 ∷ 0x30 ∷ 0x32 ∷ 0x32 ∷ 0x39 ∷ 0x30 ∷ 0x30 ∷ 0x30 ∷ 0x30 ∷ 0x30 ∷ 0x30 ∷ 0x5A ∷ []), gets bad-time)
+    ∷ (aContent generalizedTime (0x31 ∷ 0x39 ∷ 0x30 ∷ 0x30 ∷ 0x30 ∷ 0x32 ∷ 0x32 ∷ 0x39 ∷ 0x30 ∷ 0x30 ∷ 0x30 ∷ 0x30 ∷ 0x30 ∷ 0x30 ∷ 0x5A ∷ []), gets 10)
     -- P8 identifier 2A 80 01 gets 11. P9 UTF-8 E5 8D B0 is taken. P10 ED A0 80 gets 9.
-    ∷ (aContent identifier (0x2A ∷ 0x80 ∷ 0x01 ∷ []), gets bad-identifier)
+    ∷ (aContent identifier (0x2A ∷ 0x80 ∷ 0x01 ∷ []), gets 11)
     ∷ (aContent (utf8String may-be-empty) (0xE5 ∷ 0x8D ∷ 0xB0 ∷ []), taken)
-    ∷ (aContent (utf8String may-be-empty) (0xED ∷ 0xA0 ∷ 0x80 ∷ []), gets bad-character)
+    ∷ (aContent (utf8String may-be-empty) (0xED ∷ 0xA0 ∷ 0x80 ∷ []), gets 9)
     -- P11 S with G: 0. P12 signer revoked 20240630120000: 30. P13 revoked 20240630120001: 0.
-    ∷ (onS G, plain valid)
-    ∷ (onS (findings true true 20240701000000 c (certificate true true 20230101000000 20251231235959 (At 20240630120000)) Never Unchecked), plain signer-revoked)
-    ∷ (onS (findings true true 20240701000000 c (certificate true true 20230101000000 20251231235959 (At 20240630120001)) Never Unchecked), plain valid)
+    ∷ (onS G, plain 0)
+    ∷ (onS (findings true true 20240701000000 c (certificate true true 20230101000000 20251231235959 (At 20240630120000)) Never Unchecked), plain 30)
+    ∷ (onS (findings true true 20240701000000 c (certificate true true 20230101000000 20251231235959 (At 20240630120001)) Never Unchecked), plain 0)
     -- P14 now 20260101000000 and maker from 20240701000000: 0 with notice.
-    ∷ (onS (findings true true 20260101000000 (certificate true true 20240701000000 20251231235959 Never) c Never Unchecked), notice valid)
+    ∷ (onS (findings true true 20260101000000 (certificate true true 20240701000000 20251231235959 Never) c Never Unchecked), notice 0)
     ∷ []
 
 pub P-1-to-14 : asks P ≡ answers P

@@ -4,7 +4,6 @@ use Prim.Native.Nat.{ℕ}
 use mathlib.Core.Bool.{Bool, true, false}
 use mathlib.Core.List.{List, [], _∷_}
 use lib.ListN.{set, take, drop}
-use Rattle.terms.specs.Numbers.{valid, unreal-time, signature-bad, signer-unlisted, seal-bad, maker-bad, maker-out-of-force, outside-period, seal-withdrawn, signer-bad, outside-dates, signer-revoked, digest-differs, stamp-bad, after-stamp, signer-out-at-stamp, bad-length}
 use Rattle.terms.specs.Answer.{Told, told-one, refusal}
 use Rattle.terms.specs.Laws.Table.{Row, asks, answers, agreed}
 use Rattle.contents.specs.Time.{notLater, momentIn, momentOf, written, isReal}
@@ -69,20 +68,20 @@ signedIn2025 = set recordS 129 0x35
 
 abbrev rowsS : List Row
 rowsS =
-    (onS G, plain valid)
-    ∷ (onS (findings true true 20240701000000 late c Never Unchecked), notice valid)
-    ∷ (onS (findings false true 20240701000000 late c Never Unchecked), plain signature-bad)
-    ∷ (toldVerdict (signatureVerdict recordD G dd []), plain signer-unlisted)
-    ∷ (onS (findings true false 20240701000000 c c Never Unchecked), plain seal-bad)
-    ∷ (onS (findings true true 20240701000000 bad c Never Unchecked), plain maker-bad)
-    ∷ (toldVerdict (signatureVerdict signedIn2025 (findings true true 20240701000000 late c Never Unchecked) dd []), plain outside-period)
-    ∷ (onS (findings true true 20240701000000 c c (At 20240630120000) Unchecked), plain seal-withdrawn)
-    ∷ (onS (findings true true 20240701000000 c c (At 20240630120001) Unchecked), plain valid)
-    ∷ (onS (findings true true 20240701000000 late bad Never Unchecked), notice signer-bad)
-    ∷ (onS (findings true true 20240701000000 c late Never Unchecked), plain outside-dates)
-    ∷ (toldVerdict (signatureVerdict recordS G (0xDE ∷ []) []), plain digest-differs)
-    ∷ (onS (findings true true 20240230000000 c c Never Unchecked), refusal unreal-time 0)
-    ∷ (onS (findings false true 20240701000000 c c Never (Good 0)), refusal unreal-time 0)
+    (onS G, plain 0)
+    ∷ (onS (findings true true 20240701000000 late c Never Unchecked), notice 0)
+    ∷ (onS (findings false true 20240701000000 late c Never Unchecked), plain 21)
+    ∷ (toldVerdict (signatureVerdict recordD G dd []), plain 22)
+    ∷ (onS (findings true false 20240701000000 c c Never Unchecked), plain 23)
+    ∷ (onS (findings true true 20240701000000 bad c Never Unchecked), plain 24)
+    ∷ (toldVerdict (signatureVerdict signedIn2025 (findings true true 20240701000000 late c Never Unchecked) dd []), plain 26)
+    ∷ (onS (findings true true 20240701000000 c c (At 20240630120000) Unchecked), plain 27)
+    ∷ (onS (findings true true 20240701000000 c c (At 20240630120001) Unchecked), plain 0)
+    ∷ (onS (findings true true 20240701000000 late bad Never Unchecked), notice 28)
+    ∷ (onS (findings true true 20240701000000 c late Never Unchecked), plain 29)
+    ∷ (toldVerdict (signatureVerdict recordS G (0xDE ∷ []) []), plain 31)
+    ∷ (onS (findings true true 20240230000000 c c Never Unchecked), refusal 18 0)
+    ∷ (onS (findings false true 20240701000000 c c Never (Good 0)), refusal 18 0)
     ∷ []
 
 verdicts-on-S : asks rowsS ≡ answers rowsS
@@ -100,14 +99,14 @@ onD r t = toldVerdict (signatureVerdict recordD (findings true true 202207010000
 
 abbrev rowsD : List Row
 rowsD =
-    (onD Never (Good 20220406060708), plain valid)
-    ∷ (onD Never Unchecked, plain stamp-bad)
-    ∷ (onD Never Bad, plain stamp-bad)
-    ∷ (onD Never (Good 20220405060707), plain after-stamp)
-    ∷ (onD Never (Good 20220405060708), plain valid)
-    ∷ (onD Never (Good 20230101000000), plain signer-out-at-stamp)
-    ∷ (onD (At 20220406000000) (Good 20220406000000), plain signer-out-at-stamp)
-    ∷ (onD (At 20220405060708) (Good 20220406000000), plain signer-revoked)
+    (onD Never (Good 20220406060708), plain 0)
+    ∷ (onD Never Unchecked, plain 32)
+    ∷ (onD Never Bad, plain 32)
+    ∷ (onD Never (Good 20220405060707), plain 33)
+    ∷ (onD Never (Good 20220405060708), plain 0)
+    ∷ (onD Never (Good 20230101000000), plain 34)
+    ∷ (onD (At 20220406000000) (Good 20220406000000), plain 34)
+    ∷ (onD (At 20220405060708) (Good 20220406000000), plain 30)
     ∷ []
 
 verdicts-on-D : asks rowsD ≡ answers rowsD
@@ -121,13 +120,13 @@ onSeal f = toldVerdict (sealVerdict (take 115 (drop 9 recordS)) f [] [])
 
 abbrev rowsSeal : List Row
 rowsSeal =
-    (onSeal G, plain valid)
-    ∷ (onSeal (findings false false 20240701000000 c c Never Unchecked), plain seal-bad)
-    ∷ (onSeal (findings true true 20240701000000 bad c Never Unchecked), plain maker-bad)
-    ∷ (onSeal (findings true true 20240701000000 late c Never Unchecked), plain maker-out-of-force)
-    ∷ (onSeal (findings true true 20250101000000 c c Never Unchecked), plain outside-period)
-    ∷ (onSeal (findings true true 20240701000000 c c (At 20240101000000) Unchecked), plain valid)
-    ∷ (toldVerdict (sealVerdict (0x30 ∷ 0x80 ∷ []) G [] []), refusal bad-length 0)
+    (onSeal G, plain 0)
+    ∷ (onSeal (findings false false 20240701000000 c c Never Unchecked), plain 23)
+    ∷ (onSeal (findings true true 20240701000000 bad c Never Unchecked), plain 24)
+    ∷ (onSeal (findings true true 20240701000000 late c Never Unchecked), plain 25)
+    ∷ (onSeal (findings true true 20250101000000 c c Never Unchecked), plain 26)
+    ∷ (onSeal (findings true true 20240701000000 c c (At 20240101000000) Unchecked), plain 0)
+    ∷ (toldVerdict (sealVerdict (0x30 ∷ 0x80 ∷ []) G [] []), refusal 3 0)
     ∷ []
 
 verdicts-on-the-seal : asks rowsSeal ≡ answers rowsSeal
