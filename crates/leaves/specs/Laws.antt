@@ -5,10 +5,10 @@ use mathlib.Core.Bool.{false}
 use mathlib.Core.List.{List}
 use lib.ListN.{length, getD, List·getD-eq-default}
 use lib.Seq.{slice}
-use lib.Dec.{ltb, eqb, lt→ltb}
+use lib.Dec.{ltb, eqb}
 use borrow.Author.Tests.{lt-ltb, le-ltb}
 use Rattle.terms.specs.Numbers.{left-over}
-use Rattle.terms.specs.Laws.Answer.{pick-yes, pick-no}
+use Rattle.terms.specs.Laws.Answer.{pick-lt, pick-ge}
 use Rattle.heads.specs.Scan.{headAt}
 use Rattle.heads.specs.declared.Seen.{Seen}
 use Rattle.heads.specs.declared.Seen.the-variants.{Item, Refused as Bad}
@@ -87,11 +87,11 @@ module _ (t : Tag) (s : List ℕ) (p e : ℕ) where
 
 pub close-left : (p e : ℕ) → p < e → Refused left-over p ≡ closeAt p e
 unfolding closeAt
-close-left p e h = sym (pick-yes (ltb p e) _ _ (lt→ltb p e h))
+close-left p e h = pick-lt p e _ _ h
 
 pub close-end : (p e : ℕ) → e ≤ p → Next e ≡ closeAt p e
 unfolding closeAt
-close-end p e h = sym (pick-no (ltb p e) _ _ (rw (le-ltb p e h) tt))
+close-end p e h = pick-ge p e _ _ h
 
 -- ---- by the case of an enum
 

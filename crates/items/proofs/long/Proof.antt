@@ -1,5 +1,5 @@
 -- `items::long`: below the form's first length it is bad, as `longOf` says.
-use Rattle.items.specs.Laws.Scan.{pick-lt, pick-ge}
+use Rattle.terms.specs.Laws.Answer.{pick-lt, pick-ge}
 use borrow.Author.Needs.{needs}
 use Rattle.items.proofs.long.Statement.{statement}
 use Rattle.items.proofs.long.Tie as tie

@@ -1,5 +1,5 @@
 -- `items::room`: the content fits behind the header, or 4: as `roomAt` says.
-use Rattle.items.specs.Laws.Scan.{pick-lt, pick-ge}
+use Rattle.terms.specs.Laws.Answer.{pick-lt, pick-ge}
 use borrow.Author.Needs.{needs}
 use Rattle.items.proofs.room.Statement.{statement}
 use Rattle.items.proofs.room.Tie as tie

@@ -7,7 +7,7 @@ use mathlib.Core.Option.{Option, none, some}
 use mathlib.Core.List.{List, [], _∷_, _++_}
 use lib.ListN.{length, getD, length-append}
 use lib.Seq.{slice, length-slice, length-take-le}
-use lib.Dec.{T, leb, ltb, eqb, ltb→lt, leb→le, nltb→le, nleb→lt, lt→ltb, lit≤}
+use lib.Dec.{T, leb, ltb, eqb, ltb→lt, leb→le, nltb→le, nleb→lt, lit≤}
 use mir.Syntax.{w64}
 use mir.Val.{Fits}
 use borrow.Author.Tests.{lt-ltb, le-ltb, le-leb, lt-leb, eq-eqb, ne-eqb}
@@ -15,7 +15,7 @@ use Rattle.terms.specs.Numbers.{item-missing, other-tag, bad-length, past-end, 
 use Rattle.terms.specs.Answer.{Res, good, fault, pick, bind, need, have, every}
 use Rattle.terms.specs.Digits.{digits, numberFrom, number, isByte, leading}
 use Rattle.terms.specs.Laws.Digits.{leading-there, digits-number, number-small}
-use Rattle.terms.specs.Laws.Answer.{test, pick-yes, pick-no, bind-eq}
+use Rattle.terms.specs.Laws.Answer.{test, pick-yes, pick-no, pick-lt, pick-ge, bind-eq}
 use Rattle.heads.specs.Head as Head
 use Rattle.heads.specs.Head.{forms, unspelled, spell, octets, Size, unspell, size, opening, Cut, before, cut, head, outermost}
 use Rattle.heads.specs.Laws.Head.{size-back, octets-below, opening-rest}
@@ -31,14 +31,6 @@ use Rattle.items.specs.declared.Length.{Length}
 use Rattle.items.specs.declared.Length.the-variants.{Spelled, Bad}
 use Rattle.items.specs.declared.Opening.{Opening}
 use Rattle.items.specs.declared.Opening.the-variants.{Opened, Refused as Unopened}
-
--- what a test picks
-module _ {A : Type 0} (a b : ℕ) (x y : A) where
-  pub pick-lt : a < b → x ≡ pick (ltb a b) x y
-  pick-lt h = sym (pick-yes (ltb a b) x y (lt→ltb a b h))
-
-  pub pick-ge : b ≤ a → y ≡ pick (ltb a b) x y
-  pick-ge h = sym (pick-no (ltb a b) x y (rw (le-ltb a b h) tt))
 
 -- ---- lengths, by their first byte
 

@@ -1,12 +1,12 @@
 -- How an answer was come by: backwards, what a good answer was made of; forwards, what it comes to. Assumes nothing.
-use mathlib.Core.Path.{_≡_, refl, ap, ap₂}
-use Prim.Native.Nat.{ℕ}
+use mathlib.Core.Path.{_≡_, refl, sym, ap, ap₂}
+use Prim.Native.Nat.{ℕ, _≤_, _<_}
 use native.Mathlib.Omega.{arith}
 use mathlib.Core.Bool.{Bool, true, false, not, _&&_}
 use mathlib.Core.Option.{Option, none, some}
 use mathlib.Core.List.{List, [], _∷_}
-use lib.Dec.{T, eqb, eqb→eq}
-use borrow.Author.Tests.{eq-eqb}
+use lib.Dec.{T, eqb, ltb, eqb→eq, lt→ltb}
+use borrow.Author.Tests.{eq-eqb, le-ltb}
 use Rattle.terms.specs.Answer.{Res, good, fault, pick, bind, need, have, same}
 
 -- a refusal is no answer
@@ -52,6 +52,14 @@ pub pick-no {ℓ} : {A : Type ℓ} (t : Bool) (a b : A) → T (not t) → pick t
 unfolding pick
 pick-no true a b h = absurd h
 pick-no false a b h = refl
+
+-- what a comparison picks
+module _ {A : Type 0} (a b : ℕ) (x y : A) where
+  pub pick-lt : a < b → x ≡ pick (ltb a b) x y
+  pick-lt h = sym (pick-yes (ltb a b) x y (lt→ltb a b h))
+
+  pub pick-ge : b ≤ a → y ≡ pick (ltb a b) x y
+  pick-ge h = sym (pick-no (ltb a b) x y (rw (le-ltb a b h) tt))
 
 pub same-eq : (xs ys : List ℕ) → T (same xs ys) → xs ≡ ys
 unfolding same
