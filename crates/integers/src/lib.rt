@@ -7,9 +7,8 @@ ghost use Rattle.contents.specs.Integer.{sign, shortest, value, fromOne, eight 
 ghost use lib.Signed.{mag};
 ghost use mathlib.Core.Bool.{not};
 ghost use lib.Dec.{eqb};
-ghost use Rattle.contents.specs.Rules.{integerRule, versionRule, four};
+ghost use Rattle.contents.specs.Rules.{integerRule, versionRule};
 ghost use Rattle.contents.specs.Scan.{checkedAt};
-ghost use Rattle.terms.specs.Answer.{same};
 ghost use Rattle.terms.specs.Digits.{number, digits as digitsOf};
 ghost use Rattle.integers.specs.Number.{digitOf, turnedIf, negative, numberOf, numberAt, isOne, allowedOf};
 use contents::Checked;
@@ -155,16 +154,6 @@ pub fn is_one(s: &[u8], a: usize, z: usize) -> bool
     is_within(v, 1)
 }
 
-// Whether a content is the one byte 4.
-fn is_four(c: &[u8]) -> bool
-    ensures { λ r. ⌜ r ≡ same (now (c .entry)) four ⌝ }
-{
-    if c.len() != 1 {
-        return false;
-    }
-    c[0] == 4
-}
-
 // The version by its rule: 6, then 7 where it is not 4.
 pub fn version(s: &[u8], at: usize, a: usize, z: usize) -> Checked
     ensures { λ r. ⌜ r ≡ checkedAt versionRule (now (s .entry)) at a z ⌝ }
@@ -173,7 +162,7 @@ pub fn version(s: &[u8], at: usize, a: usize, z: usize) -> Checked
     let Number::Value(_) = number_in(c) else {
         return Checked::Wrong(BAD_INTEGER, at);
     };
-    if is_four(c) {
+    if windows::is_same(c, b"\x04") {
         return Checked::Fine;
     }
     Checked::Wrong(NOT_ALLOWED, at)

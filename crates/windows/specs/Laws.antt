@@ -1,2 +1,3 @@
 pub mod Window
 pub mod Cut
+pub mod Same

@@ -4,6 +4,7 @@ ghost use lib.ListN.{take, drop};
 ghost use mathlib.Core.Bool.{_||_};
 ghost use lib.Dec.{ltb};
 ghost use lib.Seq.{slice};
+ghost use Rattle.terms.specs.Answer.{same};
 ghost use Rattle.windows.specs.Window.{clamp};
 
 // The nearer of two ends.
@@ -42,4 +43,21 @@ pub fn window(s: &[u8], a: usize, z: usize) -> &[u8]
     ensures { λ r. ⌜ now r ≡ slice a z (now (s .entry)) ⌝ }
 {
     onward(upto(s, z), a)
+}
+
+// Whether a window has just the bytes of another.
+pub fn is_same(w: &[u8], v: &[u8]) -> bool
+    ensures { λ r. ⌜ r ≡ same (now (w .entry)) (now (v .entry)) ⌝ }
+{
+    if w.len() != v.len() {
+        return false;
+    }
+    let mut i = 0;
+    while i < v.len() {
+        if w[i] != v[i] {
+            return false;
+        }
+        i += 1;
+    }
+    true
 }

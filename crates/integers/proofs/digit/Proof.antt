@@ -3,8 +3,6 @@ use native.Mathlib.Omega.{arith}
 use borrow.Author.Needs.{needs}
 use Rattle.integers.proofs.digit.Statement.{statement}
 use Rattle.integers.proofs.digit.Tie as tie
-use Rattle.integers.proofs.digit.Reads as reads
-use Rattle.integers.proofs.digit.Lts as lts
 
 sub-result : tie.Need-sub-result
 sub-result c = search needs

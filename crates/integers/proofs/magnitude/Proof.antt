@@ -6,9 +6,6 @@ use native.Mathlib.Omega.{arith}
 use borrow.Author.Needs.{needs}
 use Rattle.integers.proofs.magnitude.Statement.{statement}
 use Rattle.integers.proofs.magnitude.Tie as tie
-use Rattle.integers.proofs.magnitude.Reads as reads
-use Rattle.integers.proofs.magnitude.Lts as lts
-use Rattle.integers.proofs.digit.Reads as digit-reads
 
 abbrev Inv-loop : tie.InvT-loop
 Inv-loop c neg m₀ i₀ m i = Going neg c m i

@@ -3,7 +3,6 @@ use Rattle.integers.specs.Laws.Number.{read-window}
 use borrow.Author.Needs.{needs}
 use Rattle.integers.proofs.read.Statement.{statement}
 use Rattle.integers.proofs.read.Tie as tie
-use Rattle.windows.proofs.window.Reads as window-reads
 
 window-requires : tie.Need-window-requires
 window-requires c κs = search needs

@@ -3,7 +3,6 @@ use Rattle.integers.specs.Laws.Number.{version-bad, version-good, versio
 use borrow.Author.Needs.{needs}
 use Rattle.integers.proofs.version.Statement.{statement}
 use Rattle.integers.proofs.version.Tie as tie
-use Rattle.windows.proofs.window.Reads as window-reads
 
 window-requires : tie.Need-window-requires
 window-requires c κs = search needs
@@ -20,8 +19,11 @@ enum-told-2 c = search needs
 returns : tie.Need-returns
 returns c = search (needs, version-bad)
 
-is-four-requires : tie.Need-is-four-requires
-is-four-requires c κs = search needs
+slice-aggregate-is-same : tie.Need-slice-aggregate-is-same
+slice-aggregate-is-same c = search needs
+
+is-same-requires : tie.Need-is-same-requires
+is-same-requires c κs = search needs
 
 returns-2 : tie.Need-returns-2
 returns-2 c = search (needs, version-good)
@@ -38,6 +40,7 @@ version-spec =
     enum-told
     enum-told-2
     returns
-    is-four-requires
+    slice-aggregate-is-same
+    is-same-requires
     returns-2
     returns-3)

@@ -4,7 +4,7 @@ use Prim.Native.Nat.{ℕ, zero, suc, _+_, _-_, _*_, _/_, _%_, _^_, _≤_, _<_}
 use native.Mathlib.Omega.{arith}
 use native.Mathlib.Numerals.{add-one}
 use native.Mathlib.Nat.{div-one, mul-le-mul-right, le-trans, mul-assoc, le-mul-of-pos-right, pow-succ'}
-use mathlib.Core.Bool.{Bool, true, false, not, _&&_, and-true}
+use mathlib.Core.Bool.{Bool, true, false, not}
 use mathlib.Core.List.{List, [], _∷_}
 use lib.ListN.{length, getD, drop, drop-of-length-le, length-drop}
 use lib.Seq.{slice, drop-cons}
@@ -244,30 +244,6 @@ module _ (s : List ℕ) (p a z : ℕ) (c : List ℕ) (x : Number) (win : c ≡ s
   pub version-other : (v : ℤ) (t : Bool) → x ≡ Value v → t ≡ same c four → t ≡ false → Wrong not-allowed p ≡ checkedAt versionRule s p a z
   unfolding checkedAt versionRule onlyRule also integerRule ask placeOf
   version-other v t e f g = let w = number-well c v (sym is ∙ e) in rw (← win, w .0, ← f, g)
-
--- one byte that is 4
-module _ (c : List ℕ) where
-  pub four-long : (length c ≡ 1 → ⊥) → false ≡ same c four
-  unfolding same
-  four-long h = go c h
-    where
-      go : (x : List ℕ) → (length x ≡ 1 → ⊥) → false ≡ same x four
-      go [] h = refl
-      go (a ∷ []) h = absurd (h refl)
-      go (a ∷ b ∷ x) h = and-nothing (eqb a 4)
-        where
-          and-nothing : (t : Bool) → false ≡ t && false
-          and-nothing true = refl
-          and-nothing false = refl
-
-  pub four-byte : length c ≡ 1 → eqb (getD c 0 0) 4 ≡ same c four
-  unfolding same
-  four-byte h = go c h
-    where
-      go : (x : List ℕ) → length x ≡ 1 → eqb (getD x 0 0) 4 ≡ same x four
-      go [] h = let z : ⊥ = omega arith in absurd z
-      go (a ∷ []) h = sym (and-true (eqb a 4))
-      go (a ∷ b ∷ x) h = let z : ⊥ = omega arith in absurd z
 
 -- ---- from 1 to another number
 

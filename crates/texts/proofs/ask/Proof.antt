@@ -5,11 +5,11 @@ use Rattle.texts.proofs.ask.Tie as tie
 
 returns : tie.Need-returns
 unfolding ask
-returns c = rw (c .if1 .taken)
+returns c = λ a. rw (c .if1 .taken)
 
 returns-2 : tie.Need-returns-2
 unfolding ask placeOf
-returns-2 c = rw (c .if1 .left)
+returns-2 c = λ a. rw (c .if1 .left)
 
 pub ask-spec : {M : Type 1} → statement M
 ask-spec = tie.close (tie.spec returns returns-2)

@@ -13,7 +13,7 @@ returns c = rw (c .before .if1 .taken) (c .ask .ensures)
 
 returns-2 : tie.Need-returns-2
 unfolding ask placeOf
-returns-2 c = rw (c .if1 .left)
+returns-2 c = λ a. rw (c .if1 .left)
 
 pub ask-two-spec : {M : Type 1} → statement M
 ask-two-spec = tie.close (tie.spec ask-requires returns returns-2)

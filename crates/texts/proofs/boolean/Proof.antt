@@ -1,22 +1,25 @@
--- The rule asks only whether the content is FF alone, of the range cut to the slice.
-use Rattle.windows.specs.Laws.Window.{clamp-in}
-use Rattle.texts.specs.Laws.Range.{cut-rule}
+-- The rule asks only whether the content is FF alone.
 use Rattle.texts.specs.Laws.Rules.{boolean-rule}
 use borrow.Author.Needs.{needs}
 use Rattle.texts.proofs.boolean.Statement.{statement}
 use Rattle.texts.proofs.boolean.Tie as tie
 
-nearer-requires : tie.Need-nearer-requires
-nearer-requires c κs = search needs
+window-requires : tie.Need-window-requires
+window-requires c κs = search needs
 
-is-byte-requires : tie.Need-is-byte-requires
-is-byte-requires c κs = search (needs, clamp-in)
+slice-aggregate-is-same : tie.Need-slice-aggregate-is-same
+slice-aggregate-is-same c = search needs
+
+is-same-requires : tie.Need-is-same-requires
+is-same-requires c κs = search needs
 
 ask-requires : tie.Need-ask-requires
 ask-requires c κs = search needs
 
 returns : tie.Need-returns
-returns c = search (needs, clamp-in, cut-rule, boolean-rule)
+returns c = search (needs, boolean-rule)
 
 pub boolean-spec : {M : Type 1} → statement M
-boolean-spec = tie.close (tie.spec nearer-requires is-byte-requires ask-requires returns)
+boolean-spec =
+    tie.close
+    (tie.spec window-requires slice-aggregate-is-same is-same-requires ask-requires returns)

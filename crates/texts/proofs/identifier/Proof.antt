@@ -1,22 +1,20 @@
--- The rule asks only whether the content is an identifier, of the range cut to the slice.
-use Rattle.windows.specs.Laws.Window.{clamp-in}
-use Rattle.texts.specs.Laws.Range.{cut-rule}
+-- The rule asks only whether the content is an identifier.
 use Rattle.texts.specs.Laws.Rules.{identifier-rule}
 use borrow.Author.Needs.{needs}
 use Rattle.texts.proofs.identifier.Statement.{statement}
 use Rattle.texts.proofs.identifier.Tie as tie
 
-nearer-requires : tie.Need-nearer-requires
-nearer-requires c κs = search needs
+window-requires : tie.Need-window-requires
+window-requires c κs = search needs
 
 is-identifier-requires : tie.Need-is-identifier-requires
-is-identifier-requires c κs = search (needs, clamp-in)
+is-identifier-requires c κs = search needs
 
 ask-requires : tie.Need-ask-requires
 ask-requires c κs = search needs
 
 returns : tie.Need-returns
-returns c = search (needs, clamp-in, cut-rule, identifier-rule)
+returns c = search (needs, identifier-rule)
 
 pub identifier-spec : {M : Type 1} → statement M
-identifier-spec = tie.close (tie.spec nearer-requires is-identifier-requires ask-requires returns)
+identifier-spec = tie.close (tie.spec window-requires is-identifier-requires ask-requires returns)

@@ -7,9 +7,6 @@ use Rattle.texts.proofs.is_identifier.Tie as tie
 returns : tie.Need-returns
 returns c = search (needs, identifier-none)
 
-sub-if2 : tie.Need-sub-if2
-sub-if2 c = search needs
-
 returns-2 : tie.Need-returns-2
 returns-2 c = search (needs, identifier-long)
 
@@ -20,4 +17,4 @@ returns-3 : tie.Need-returns-3
 returns-3 c = search (needs, identifier-parts)
 
 pub is-identifier-spec : {M : Type 1} → statement M
-is-identifier-spec = tie.close (tie.spec returns sub-if2 returns-2 whole-parts-requires returns-3)
+is-identifier-spec = tie.close (tie.spec returns returns-2 whole-parts-requires returns-3)

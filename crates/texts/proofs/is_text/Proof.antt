@@ -1,29 +1,28 @@
--- The loop keeps that the bytes from `i` on are text just where all are, and `i` goes on by whole characters.
+-- The loop keeps that what is to come from `i` on makes the bytes text just where all are.
 use mathlib.Core.Path.{_≡_, refl}
 use Prim.Native.Nat.{_-_}
-use lib.Seq.{slice}
-use Rattle.contents.specs.Text.{isText}
-use Rattle.texts.specs.Alphabet.{charactersOf}
-use Rattle.texts.specs.Laws.Range.{over, onward}
-use Rattle.texts.specs.Laws.Text.{text-end, stops, goes-on}
+use lib.ListN.{length, drop}
+use Rattle.contents.specs.Text.{textFrom, isText}
+use Rattle.texts.specs.Text.{charactersOf, textAfter}
+use Rattle.texts.specs.Laws.Text.{text-on, text-end}
 use borrow.Author.Needs.{needs}
 use Rattle.texts.proofs.is_text.Statement.{statement}
 use Rattle.texts.proofs.is_text.Tie as tie
 
 abbrev Inv-loop : tie.InvT-loop
-Inv-loop s alphabet a z i₀ i = isText (charactersOf alphabet) (slice a z s) ≡ isText (charactersOf alphabet) (slice i z s)
+Inv-loop w alphabet rest₀ i₀ rest i = isText (charactersOf alphabet) w ≡ textAfter (charactersOf alphabet) rest (drop i w)
 
 abbrev μ-loop : tie.MeasureT-loop
-μ-loop s alphabet a z i₀ i = z - i
+μ-loop w alphabet rest₀ i₀ rest i = length w - i
 
 loop-holds : tie.Need-loop-holds Inv-loop μ-loop
 loop-holds c = refl
 
-size-requires : tie.Need-size-requires Inv-loop μ-loop
-size-requires c κs = search needs
+shared-slice-read-next : tie.Need-shared-slice-read-next Inv-loop μ-loop
+shared-slice-read-next c = search needs
 
-returns : tie.Need-returns Inv-loop μ-loop
-returns c = search (needs, over, stops)
+next-requires : tie.Need-next-requires Inv-loop μ-loop
+next-requires c κs = search needs
 
 add-i : tie.Need-add-i Inv-loop μ-loop
 add-i c = search needs
@@ -32,10 +31,28 @@ loop-less : tie.Need-loop-less Inv-loop μ-loop
 loop-less c = search needs
 
 loop-again : tie.Need-loop-again Inv-loop μ-loop
-loop-again c = search (needs, onward, goes-on)
+loop-again c = search (needs, text-on)
+
+enum-told : tie.Need-enum-told Inv-loop μ-loop
+enum-told c = search needs
+
+enum-told-2 : tie.Need-enum-told-2 Inv-loop μ-loop
+enum-told-2 c = search needs
+
+enum-told-3 : tie.Need-enum-told-3 Inv-loop μ-loop
+enum-told-3 c = search needs
+
+returns : tie.Need-returns Inv-loop μ-loop
+unfolding textFrom
+returns c = search (needs, text-end)
 
 returns-2 : tie.Need-returns-2 Inv-loop μ-loop
-returns-2 c = search (needs, over, text-end)
+unfolding textFrom
+returns-2 c = search (needs, text-end)
+
+returns-3 : tie.Need-returns-3 Inv-loop μ-loop
+unfolding textFrom
+returns-3 c = search (needs, text-end)
 
 pub is-text-spec : {M : Type 1} → statement M
 is-text-spec =
@@ -44,9 +61,14 @@ is-text-spec =
     Inv-loop
     μ-loop
     loop-holds
-    size-requires
-    returns
+    shared-slice-read-next
+    next-requires
     add-i
     loop-less
     loop-again
-    returns-2)
+    enum-told
+    enum-told-2
+    enum-told-3
+    returns
+    returns-2
+    returns-3)

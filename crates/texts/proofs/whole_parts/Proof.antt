@@ -2,19 +2,18 @@
 use mathlib.Core.Path.{_≡_, refl}
 use mathlib.Core.Bool.{true}
 use Prim.Native.Nat.{_-_}
-use lib.Seq.{slice}
+use lib.ListN.{length, drop}
 use Rattle.contents.specs.Text.{partsFrom}
-use Rattle.texts.specs.Laws.Range.{over, onward}
 use Rattle.texts.specs.Laws.Text.{parts-end, parts-bad, parts-on}
 use borrow.Author.Needs.{needs}
 use Rattle.texts.proofs.whole_parts.Statement.{statement}
 use Rattle.texts.proofs.whole_parts.Tie as tie
 
 abbrev Inv-loop : tie.InvT-loop
-Inv-loop s a z begins₀ i₀ begins i = partsFrom true (slice a z s) ≡ partsFrom begins (slice i z s)
+Inv-loop w begins₀ i₀ begins i = partsFrom true w ≡ partsFrom begins (drop i w)
 
 abbrev μ-loop : tie.MeasureT-loop
-μ-loop s a z begins₀ i₀ begins i = z - i
+μ-loop w begins₀ i₀ begins i = length w - i
 
 loop-holds : tie.Need-loop-holds Inv-loop μ-loop
 loop-holds c = refl
@@ -26,7 +25,7 @@ begins-with-80-requires : tie.Need-begins-with-80-requires Inv-loop μ-loop
 begins-with-80-requires c κs = search needs
 
 returns : tie.Need-returns Inv-loop μ-loop
-returns c = search (needs, over, parts-bad)
+returns c = search (needs, parts-bad)
 
 shared-slice-read-begins : tie.Need-shared-slice-read-begins Inv-loop μ-loop
 shared-slice-read-begins c = search needs
@@ -38,10 +37,10 @@ loop-less : tie.Need-loop-less Inv-loop μ-loop
 loop-less c = search needs
 
 loop-again : tie.Need-loop-again Inv-loop μ-loop
-loop-again c = search (needs, onward, parts-on)
+loop-again c = search (needs, parts-on)
 
 returns-2 : tie.Need-returns-2 Inv-loop μ-loop
-returns-2 c = search (needs, over, parts-end)
+returns-2 c = search (needs, parts-end)
 
 pub whole-parts-spec : {M : Type 1} → statement M
 whole-parts-spec =

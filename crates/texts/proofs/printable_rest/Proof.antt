@@ -1,36 +1,36 @@
 -- Each arm that takes a byte names the row of the alphabet that has it; between the arms there is no row.
-use Rattle.texts.specs.Laws.Text.{begins, begins-none}
 use Rattle.contents.specs.Text.{printable}
+use Rattle.texts.specs.Laws.Text.{begins, begins-none}
 use borrow.Author.Needs.{needs}
-use Rattle.texts.proofs.is_printable.Statement.{statement}
-use Rattle.texts.proofs.is_printable.Tie as tie
+use Rattle.texts.proofs.printable_rest.Statement.{statement}
+use Rattle.texts.proofs.printable_rest.Tie as tie
 
 returns : tie.Need-returns
-returns c = begins printable 3 _ (search needs) (search needs)
+returns c = begins printable 3 _ (search needs) (search needs) (search needs)
 
 returns-2 : tie.Need-returns-2
-returns-2 c = begins printable 6 _ (search needs) (search needs)
+returns-2 c = begins printable 6 _ (search needs) (search needs) (search needs)
 
 returns-3 : tie.Need-returns-3
-returns-3 c = begins printable 7 _ (search needs) (search needs)
+returns-3 c = begins printable 7 _ (search needs) (search needs) (search needs)
 
 returns-4 : tie.Need-returns-4
-returns-4 c = begins printable 8 _ (search needs) (search needs)
+returns-4 c = begins printable 8 _ (search needs) (search needs) (search needs)
 
 returns-5 : tie.Need-returns-5
-returns-5 c = begins printable 4 _ (search needs) (search needs)
+returns-5 c = begins printable 4 _ (search needs) (search needs) (search needs)
 
 returns-6 : tie.Need-returns-6
-returns-6 c = begins printable 5 _ (search needs) (search needs)
+returns-6 c = begins printable 5 _ (search needs) (search needs) (search needs)
 
 returns-7 : tie.Need-returns-7
-returns-7 c = begins printable 2 _ (search needs) (search needs)
+returns-7 c = begins printable 2 _ (search needs) (search needs) (search needs)
 
 returns-8 : tie.Need-returns-8
-returns-8 c = begins printable 0 _ (search needs) (search needs)
+returns-8 c = begins printable 0 _ (search needs) (search needs) (search needs)
 
 returns-9 : tie.Need-returns-9
-returns-9 c = begins printable 1 _ (search needs) (search needs)
+returns-9 c = begins printable 1 _ (search needs) (search needs) (search needs)
 
 returns-10 : tie.Need-returns-10
 returns-10 c = begins-none printable _ (search needs)
@@ -47,8 +47,8 @@ returns-13 c = begins-none printable _ (search needs)
 returns-14 : tie.Need-returns-14
 returns-14 c = begins-none printable _ (search needs)
 
-pub is-printable-spec : {M : Type 1} → statement M
-is-printable-spec =
+pub printable-rest-spec : {M : Type 1} → statement M
+printable-rest-spec =
     tie.close
     (tie.spec
     returns
