@@ -13,11 +13,11 @@ use Rattle.contents.specs.Content.{toldCheck, ask, passes}
 use Rattle.contents.specs.Integer.{sign, shortest, wellFormed, turned, value, eight, shrink, contentOf, any, isKind, isMillimetres}
 use Rattle.contents.specs.Text.{within, starts, follows, textFrom, ia5, printable, utf8, partsFrom, isIdentifier}
 use Rattle.contents.specs.Time.{leap, monthLength, possible, isDigit, partFrom, zulu, timeFrom, timeCheck, timeRule, written, isReal}
-use Rattle.contents.specs.Rules.{integerRule, stringRule, octetsRule, bitsRule, identifierRule, booleanRule, also, onlyRule, headerNameRule, versionRule}
-use Rattle.contents.specs.Leaves.{may-be-empty, needs-a-byte}
+use Rattle.contents.specs.Rules.{integerRule, stringRule, octetsRule, bitsRule, identifierRule, booleanRule, also, onlyRule}
+use Rattle.contents.specs.Leaves.{may-be-empty, needs-a-byte, headerName, version, knownRule}
 
 evaluate : Unit {0}
-unfolding pick bind need every enough same sameWhole sameWholes sameTold agree digits numberFrom ask passes sign shortest wellFormed turned value eight shrink contentOf within starts follows textFrom partsFrom isIdentifier leap monthLength possible isDigit partFrom zulu timeFrom timeCheck timeRule written isReal integerRule stringRule octetsRule bitsRule identifierRule booleanRule also onlyRule headerNameRule versionRule
+unfolding pick bind need every enough same sameWhole sameWholes sameTold agree digits numberFrom ask passes sign shortest wellFormed turned value eight shrink contentOf within starts follows textFrom partsFrom isIdentifier leap monthLength possible isDigit partFrom zulu timeFrom timeCheck timeRule written isReal integerRule stringRule octetsRule bitsRule identifierRule booleanRule also onlyRule
 evaluate = tt
 
 -- a rule that refuses with a number
@@ -190,26 +190,26 @@ values =
 -- "IA5String "ES"": "14 and 9 before 8"
 abbrev headerNames : List Row
 headerNames =
-    (toldCheck (headerNameRule (0x45 ∷ 0x53 ∷ [])), told-none done)
-    ∷ (toldCheck (headerNameRule (0x45 ∷ 0x58 ∷ [])), gets not-es)
-    ∷ (toldCheck (headerNameRule (0x65 ∷ 0x73 ∷ [])), gets not-es)
-    ∷ (toldCheck (headerNameRule (0x53 ∷ 0x45 ∷ [])), gets not-es)
-    ∷ (toldCheck (headerNameRule (0x45 ∷ [])), gets not-es)
-    ∷ (toldCheck (headerNameRule (0x45 ∷ 0x53 ∷ 0x00 ∷ [])), gets not-es)
-    ∷ (toldCheck (headerNameRule ([])), gets no-bytes)
-    ∷ (toldCheck (headerNameRule (0x45 ∷ 0xD3 ∷ [])), gets bad-character)
+    (toldCheck (knownRule headerName (0x45 ∷ 0x53 ∷ [])), told-none done)
+    ∷ (toldCheck (knownRule headerName (0x45 ∷ 0x58 ∷ [])), gets not-es)
+    ∷ (toldCheck (knownRule headerName (0x65 ∷ 0x73 ∷ [])), gets not-es)
+    ∷ (toldCheck (knownRule headerName (0x53 ∷ 0x45 ∷ [])), gets not-es)
+    ∷ (toldCheck (knownRule headerName (0x45 ∷ [])), gets not-es)
+    ∷ (toldCheck (knownRule headerName (0x45 ∷ 0x53 ∷ 0x00 ∷ [])), gets not-es)
+    ∷ (toldCheck (knownRule headerName ([])), gets no-bytes)
+    ∷ (toldCheck (knownRule headerName (0x45 ∷ 0xD3 ∷ [])), gets bad-character)
     ∷ []
 
 -- "INTEGER 4": "6 before 7"
 abbrev versions : List Row
 versions =
-    (toldCheck (versionRule (0x04 ∷ [])), told-none done)
-    ∷ (toldCheck (versionRule (0x03 ∷ [])), gets not-allowed)
-    ∷ (toldCheck (versionRule (0x05 ∷ [])), gets not-allowed)
-    ∷ (toldCheck (versionRule (0xFC ∷ [])), gets not-allowed)
-    ∷ (toldCheck (versionRule (0x04 ∷ 0x04 ∷ [])), gets not-allowed)
-    ∷ (toldCheck (versionRule (0x00 ∷ 0x04 ∷ [])), gets bad-integer)
-    ∷ (toldCheck (versionRule ([])), gets bad-integer)
+    (toldCheck (knownRule version (0x04 ∷ [])), told-none done)
+    ∷ (toldCheck (knownRule version (0x03 ∷ [])), gets not-allowed)
+    ∷ (toldCheck (knownRule version (0x05 ∷ [])), gets not-allowed)
+    ∷ (toldCheck (knownRule version (0xFC ∷ [])), gets not-allowed)
+    ∷ (toldCheck (knownRule version (0x04 ∷ 0x04 ∷ [])), gets not-allowed)
+    ∷ (toldCheck (knownRule version (0x00 ∷ 0x04 ∷ [])), gets bad-integer)
+    ∷ (toldCheck (knownRule version ([])), gets bad-integer)
     ∷ []
 
 -- 12 before 14

@@ -12,7 +12,7 @@ use Rattle.contents.specs.Content.{Check, fine, Leaf}
 use Rattle.contents.specs.Integer.{stretch, unstretch, any}
 use Rattle.contents.specs.Text as Text
 use Rattle.contents.specs.Time.{timeRule}
-use Rattle.contents.specs.Rules.{integerRule, stringRule, octetsRule, bitsRule, identifierRule, booleanRule, onlyRule, es, four}
+use Rattle.contents.specs.Rules.{integerRule, stringRule, octetsRule, bitsRule, identifierRule, booleanRule, onlyRule}
 use Rattle.contents.specs.Laws.Leaves.{shown-back, shown-near, integer-there, bits-there}
 use Rattle.contents.specs.Laws.Integer.{stretch-back, stretch-near}
 
@@ -70,8 +70,8 @@ knownRule k c = onlyRule (k .leaf .rule) (k .content) (k .other) c
 
 -- "IA5String "ES"": 14, 9, then 8
 abbrev pub headerName : Known
-headerName = record { leaf = ia5String needs-a-byte; content = es; other = not-es }
+headerName = record { leaf = ia5String needs-a-byte; content = 0x45 ∷ 0x53 ∷ []; other = not-es }
 
 -- "INTEGER 4": 6, then 7
 abbrev pub version : Known
-version = record { leaf = integer any; content = four; other = not-allowed }
+version = record { leaf = integer any; content = 0x04 ∷ []; other = not-allowed }

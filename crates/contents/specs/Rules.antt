@@ -4,11 +4,11 @@ use mathlib.Core.List.{List, [], _∷_}
 use Prim.Native.Nat.{ℕ}
 use lib.Dec.{eqb}
 use lib.IntN.{ℤ}
-use Rattle.terms.specs.Numbers.{bad-integer, not-allowed, not-es, bad-character, bad-identifier, bad-bits, bad-boolean, no-bytes}
+use Rattle.terms.specs.Numbers.{bad-integer, not-allowed, bad-character, bad-identifier, bad-bits, bad-boolean, no-bytes}
 use Rattle.terms.specs.Answer.{enough, same}
 use Rattle.contents.specs.Content.{Check, fine, wrong, tag, ask}
-use Rattle.contents.specs.Integer.{wellFormed, value, any}
-use Rattle.contents.specs.Text.{Character, isText, ia5, isIdentifier}
+use Rattle.contents.specs.Integer.{wellFormed, value}
+use Rattle.contents.specs.Text.{Character, isText, isIdentifier}
 
 -- 6, then 7 by a test of the number
 unfoldable pub integerRule : (ℤ → Bool) → List ℕ → Check
@@ -44,17 +44,3 @@ also (wrong n x) k = wrong n x
 -- a content that has to be one known content, after its own rule
 unfoldable pub onlyRule : (List ℕ → Check) → List ℕ → ℕ → List ℕ → Check
 onlyRule rule k n c = also (rule c) (ask (same c k) n fine)
-
--- "IA5String "ES"": 14, 9, then 8
-abbrev pub es : List ℕ
-es = 0x45 ∷ 0x53 ∷ []
-
-unfoldable pub headerNameRule : List ℕ → Check
-headerNameRule c = onlyRule (stringRule ia5 false) es not-es c
-
--- "INTEGER 4": 6, then 7
-abbrev pub four : List ℕ
-four = 0x04 ∷ []
-
-unfoldable pub versionRule : List ℕ → Check
-versionRule c = onlyRule (integerRule any) four not-allowed c

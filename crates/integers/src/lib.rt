@@ -7,7 +7,8 @@ ghost use Rattle.contents.specs.Integer.{sign, shortest, value, fromOne, eight 
 ghost use lib.Signed.{mag};
 ghost use mathlib.Core.Bool.{not};
 ghost use lib.Dec.{eqb};
-ghost use Rattle.contents.specs.Rules.{integerRule, versionRule};
+ghost use Rattle.contents.specs.Leaves.{knownRule, version as versionItem};
+ghost use Rattle.contents.specs.Rules.{integerRule};
 ghost use Rattle.contents.specs.Scan.{checkedAt};
 ghost use Rattle.terms.specs.Digits.{number, digits as digitsOf};
 ghost use Rattle.integers.specs.Number.{digitOf, turnedIf, negative, numberOf, numberAt, isOne, allowedOf};
@@ -156,7 +157,7 @@ pub fn is_one(s: &[u8], a: usize, z: usize) -> bool
 
 // The version by its rule: 6, then 7 where it is not 4.
 pub fn version(s: &[u8], at: usize, a: usize, z: usize) -> Checked
-    ensures { λ r. ⌜ r ≡ checkedAt versionRule (now (s .entry)) at a z ⌝ }
+    ensures { λ r. ⌜ r ≡ checkedAt (knownRule versionItem) (now (s .entry)) at a z ⌝ }
 {
     let c = windows::window(s, a, z);
     let Number::Value(_) = number_in(c) else {

@@ -14,7 +14,6 @@ use Rattle.heads.specs.declared.Seen.{Seen}
 use Rattle.heads.specs.declared.Seen.the-variants.{Item, Refused as Bad}
 use Rattle.heads.specs.declared.Step.the-variants.{Next, Refused}
 use Rattle.contents.specs.Content.{Check, fine, wrong}
-use Rattle.contents.specs.Rules.{headerNameRule, versionRule}
 use Rattle.contents.specs.Leaves.{knownRule}
 use Rattle.contents.specs.Scan.{checked, checkedAt}
 use Rattle.contents.specs.declared.Checked.{Checked}
@@ -43,17 +42,6 @@ module _ (t : ℕ) (rule : List ℕ → Check) (s : List ℕ) (p e : ℕ) (u : T
   pub rule-judged : (a z : ℕ) (c : Checked) (y : Seen) → x ≡ Item a z → c ≡ checkedAt rule s p a z → y ≡ judgedAt c a z → y ≡ ruleAt t rule s p e
   unfolding ruleAt checkedAt
   rule-judged a z c y k g j = rw (← i, ← h, k) (j ∙ ap (λ (c : Checked). judgedAt c a z) g ∙ judge-checked (rule (slice a z s)) p a z)
-
--- ---- the known members
-
-module _ (s : List ℕ) (p a z : ℕ) (y : Checked) (w : Word) where
-  pub es-rule : w ≡ word.Es → y ≡ checkedAt headerNameRule s p a z → y ≡ checkedAt (knownRule (knownOf w)) s p a z
-  unfolding headerNameRule checkedAt
-  es-rule i h = rw i h
-
-  pub four-rule : w ≡ word.Four → y ≡ checkedAt versionRule s p a z → y ≡ checkedAt (knownRule (knownOf w)) s p a z
-  unfolding versionRule checkedAt
-  four-rule i h = rw i h
 
 -- ---- a tag
 
@@ -95,9 +83,12 @@ close-end p e h = pick-ge p e _ _ h
 
 -- ---- by the case of an enum
 
-module _ (s : List ℕ) (p a z : ℕ) (y : Checked) (f : Form) where
-  pub form-rule : (g : Form) → f ≡ g → y ≡ checkedAt (leafOf g .rule) s p a z → y ≡ checkedAt (leafOf f .rule) s p a z
-  form-rule g i h = rw i h
+module _ (s : List ℕ) (p a z : ℕ) (y : Checked) where
+  pub form-rule : (f g : Form) → f ≡ g → y ≡ checkedAt (leafOf g .rule) s p a z → y ≡ checkedAt (leafOf f .rule) s p a z
+  form-rule f g i h = rw i h
+
+  pub word-rule : (w v : Word) → w ≡ v → y ≡ checkedAt (knownRule (knownOf v)) s p a z → y ≡ checkedAt (knownRule (knownOf w)) s p a z
+  word-rule w v i h = rw i h
 
 module _ (c : Checked) (a z : ℕ) where
   pub judged-fine : c ≡ Fine → Item a z ≡ judgedAt c a z

@@ -6,8 +6,9 @@ ghost use mathlib.Core.List.{List};
 ghost use Prim.Native.Nat.{ℕ};
 ghost use lib.Dec.{eqb};
 ghost use Rattle.contents.specs.Text.{Character, isText, ia5 as ia5Characters, printable as printableCharacters, utf8 as utf8Characters, partsFrom, isIdentifier};
-ghost use Rattle.contents.specs.Rules.{octetsRule, booleanRule, bitsRule, stringRule, identifierRule, headerNameRule};
+ghost use Rattle.contents.specs.Rules.{octetsRule, booleanRule, bitsRule, stringRule, identifierRule};
 ghost use Rattle.contents.specs.Content.{fine, ask as asked};
+ghost use Rattle.contents.specs.Leaves.{headerName, knownRule};
 ghost use Rattle.contents.specs.Scan.{checked, checkedAt};
 ghost use Rattle.texts.specs.declared.Rest.the-variants.{Whole, Due};
 ghost use Rattle.texts.specs.Text.{charactersOf, Steps};
@@ -271,7 +272,7 @@ pub fn utf8(s: &[u8], at: usize, a: usize, z: usize, empty: bool) -> Checked
 
 // The header's name: 14 and 9 as of an IA5String that needs a byte, then 8 unless it is "ES".
 pub fn header_name(s: &[u8], at: usize, a: usize, z: usize) -> Checked
-    ensures { λ r. ⌜ r ≡ checkedAt headerNameRule (now (s .entry)) at a z ⌝ }
+    ensures { λ r. ⌜ r ≡ checkedAt (knownRule headerName) (now (s .entry)) at a z ⌝ }
 {
     let text = ia5(s, at, a, z, false);
     let Checked::Fine = text else {

@@ -22,7 +22,8 @@ use Rattle.terms.specs.Digits.{digits, numberFrom, number}
 use Rattle.terms.specs.Laws.Digits.{pow-pos}
 use Rattle.contents.specs.Integer.{sign, shortest, wellFormed, turned, value, fromOne, eight, shrink, contentOf}
 use Rattle.contents.specs.Content.{ask, placeOf}
-use Rattle.contents.specs.Rules.{integerRule, also, onlyRule, four, versionRule}
+use Rattle.contents.specs.Rules.{integerRule, also, onlyRule}
+use Rattle.contents.specs.Leaves.{knownRule, version}
 use Rattle.contents.specs.Scan.{checkedAt}
 use Rattle.contents.specs.declared.Checked.the-variants.{Fine, Wrong}
 use Rattle.integers.specs.Number.{digitOf, turnedIf, negative, numberOf, numberAt, isOne, allowedOf}
@@ -233,16 +234,16 @@ module _ (s : List ℕ) (a z : ℕ) (x : Number) (h : x ≡ numberAt s a z) wher
   one-good v t e f = let w = number-well (slice a z s) v (sym h ∙ e) in rw (w .0, w .1) f
 
 module _ (s : List ℕ) (p a z : ℕ) (c : List ℕ) (x : Number) (win : c ≡ slice a z s) (is : x ≡ numberOf c) where
-  pub version-bad : x ≡ Bad → Wrong bad-integer p ≡ checkedAt versionRule s p a z
-  unfolding checkedAt versionRule onlyRule also integerRule ask placeOf
+  pub version-bad : x ≡ Bad → Wrong bad-integer p ≡ checkedAt (knownRule version) s p a z
+  unfolding checkedAt onlyRule also integerRule ask placeOf
   version-bad e = rw (← win, number-ill c (sym is ∙ e))
 
-  pub version-good : (v : ℤ) (t : Bool) → x ≡ Value v → t ≡ same c four → t ≡ true → Fine ≡ checkedAt versionRule s p a z
-  unfolding checkedAt versionRule onlyRule also integerRule ask
+  pub version-good : (v : ℤ) (t : Bool) → x ≡ Value v → t ≡ same c (version .content) → t ≡ true → Fine ≡ checkedAt (knownRule version) s p a z
+  unfolding checkedAt onlyRule also integerRule ask
   version-good v t e f g = let w = number-well c v (sym is ∙ e) in rw (← win, w .0, ← f, g)
 
-  pub version-other : (v : ℤ) (t : Bool) → x ≡ Value v → t ≡ same c four → t ≡ false → Wrong not-allowed p ≡ checkedAt versionRule s p a z
-  unfolding checkedAt versionRule onlyRule also integerRule ask placeOf
+  pub version-other : (v : ℤ) (t : Bool) → x ≡ Value v → t ≡ same c (version .content) → t ≡ false → Wrong not-allowed p ≡ checkedAt (knownRule version) s p a z
+  unfolding checkedAt onlyRule also integerRule ask placeOf
   version-other v t e f g = let w = number-well c v (sym is ∙ e) in rw (← win, w .0, ← f, g)
 
 -- ---- from 1 to another number

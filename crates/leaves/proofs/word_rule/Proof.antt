@@ -1,5 +1,5 @@
 -- `leaves::word_rule`: each known content by its own rule.
-use Rattle.leaves.specs.Laws.{es-rule, four-rule}
+use Rattle.leaves.specs.Laws.{word-rule}
 use borrow.Author.Needs.{needs}
 use Rattle.leaves.proofs.word_rule.Statement.{statement}
 use Rattle.leaves.proofs.word_rule.Tie as tie
@@ -19,10 +19,10 @@ version-requires : tie.Need-version-requires
 version-requires c κs = search needs
 
 returns : tie.Need-returns
-returns c = search (needs, es-rule)
+returns c = search (needs, word-rule)
 
 returns-2 : tie.Need-returns-2
-returns-2 c = search (needs, four-rule)
+returns-2 c = search (needs, word-rule)
 
 pub word-rule-spec : {M : Type 1} → statement M
 word-rule-spec =

@@ -12,7 +12,8 @@ use Rattle.terms.specs.Answer.{enough, same}
 use Rattle.terms.specs.Numbers.{not-es, bad-character, bad-identifier, bad-bits, bad-boolean, no-bytes}
 use Rattle.contents.specs.Content.{Check, fine, wrong, tag, ask, placeOf}
 use Rattle.contents.specs.Text.{Character, isText, ia5, isIdentifier}
-use Rattle.contents.specs.Rules.{octetsRule, bitsRule, yes-byte, booleanRule, stringRule, identifierRule, also, onlyRule, es, headerNameRule}
+use Rattle.contents.specs.Rules.{octetsRule, bitsRule, yes-byte, booleanRule, stringRule, identifierRule, also, onlyRule}
+use Rattle.contents.specs.Leaves.{headerName, knownRule}
 use Rattle.contents.specs.Scan.{checked, checkedAt}
 use Rattle.contents.specs.declared.Checked.{Checked}
 use Rattle.contents.specs.declared.Checked.the-variants.{Fine, Wrong}
@@ -69,9 +70,9 @@ module _ (s w : List ℕ) (p a z : ℕ) (win : w ≡ slice a z s) (y : Checked) 
   unfolding checkedAt
   bits-rule e h = rw (← win, bits-by w e) (h a)
 
-  pub header-rule : (x : Checked) (t : Bool) → x ≡ checkedAt (stringRule ia5 false) s p a z → x ≡ Fine → t ≡ same w es → ((k : ℕ) → y ≡ checked (ask t not-es fine) p k) → y ≡ checkedAt headerNameRule s p a z
-  unfolding checkedAt headerNameRule onlyRule
-  header-rule x t e f g h = rw (fine-first (stringRule ia5 false (slice a z s)) (ask (same (slice a z s) es) not-es fine) p a x e f, ← win, ← g) (h a)
+  pub header-rule : (x : Checked) (t : Bool) → x ≡ checkedAt (stringRule ia5 false) s p a z → x ≡ Fine → t ≡ same w (headerName .content) → ((k : ℕ) → y ≡ checked (ask t not-es fine) p k) → y ≡ checkedAt (knownRule headerName) s p a z
+  unfolding checkedAt onlyRule
+  header-rule x t e f g h = rw (fine-first (stringRule ia5 false (slice a z s)) (ask (same (slice a z s) (headerName .content)) not-es fine) p a x e f, ← win, ← g) (h a)
 
 -- bits that have no byte
 pub bits-none : (s w : List ℕ) (p a z : ℕ) → w ≡ slice a z s → length w ≡ 0 → Wrong bad-bits p ≡ checkedAt bitsRule s p a z
@@ -79,6 +80,6 @@ unfolding checkedAt placeOf
 bits-none s w p a z win e = rw (← win, bits-empty w e)
 
 -- the header's name: the string's refusal stands
-pub header-text : (s : List ℕ) (p a z n q : ℕ) (y : Checked) → y ≡ checkedAt (stringRule ia5 false) s p a z → y ≡ Wrong n q → y ≡ checkedAt headerNameRule s p a z
-unfolding checkedAt headerNameRule onlyRule
+pub header-text : (s : List ℕ) (p a z n q : ℕ) (y : Checked) → y ≡ checkedAt (stringRule ia5 false) s p a z → y ≡ Wrong n q → y ≡ checkedAt (knownRule headerName) s p a z
+unfolding checkedAt onlyRule
 header-text s p a z n q y e f = fault-first _ _ p a n q y e f

@@ -5,18 +5,17 @@ use native.Mathlib.Omega.{arith}
 use mathlib.Core.List.{List, [], _∷_}
 use lib.ListN.{length, getD, take, drop, length-take, drop-of-length-le}
 use lib.Seq.{slice, slice-cons, take-all, take-length}
-use lib.Dec.{ltb, ltb→lt, nltb→le, lt→ltb}
-use borrow.Author.Tests.{le-ltb}
-use Rattle.terms.specs.Laws.Answer.{test, pick-yes, pick-no}
+use lib.Dec.{ltb, ltb→lt, nltb→le}
+use Rattle.terms.specs.Laws.Answer.{test, pick-lt, pick-ge}
 use Rattle.windows.specs.Window.{clamp}
 
 pub clamp-near : (e n : ℕ) → e < n → e ≡ clamp e n
 unfolding clamp
-clamp-near e n h = sym (pick-yes (ltb e n) e n (lt→ltb e n h))
+clamp-near e n h = pick-lt e n e n h
 
 pub clamp-far : (e n : ℕ) → n ≤ e → n ≡ clamp e n
 unfolding clamp
-clamp-far e n h = sym (pick-no (ltb e n) e n (rw (le-ltb e n h) tt))
+clamp-far e n h = pick-ge e n e n h
 
 -- past the slice there is nothing
 pub slice-clamp : (p e : ℕ) (s : List ℕ) → slice p (clamp e (length s)) s ≡ slice p e s
