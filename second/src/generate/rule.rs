@@ -42,6 +42,12 @@ impl Bad {
         }
     }
 
+    /// Makes contents with the same one fault.
+    fn each<Content: AsRef<[u8]>>(number: u8, contents: &[Content]) -> Vec<Bad> {
+        let one = |content: &Content| Bad::one(number, content.as_ref());
+        contents.iter().map(one).collect()
+    }
+
     /// Makes content with two faults, the first of which answers.
     fn two(number: u8, also: u8, content: &[u8]) -> Bad {
         Bad {
@@ -94,7 +100,7 @@ fn with_empty(number: u8, others: Vec<Bad>) -> Vec<Bad> {
 
 /// Gives contents that are no shortest integer of at most eight bytes.
 fn bad_integers() -> Vec<Bad> {
-    [
+    let contents = [
         &b""[..],
         b"\x00\x01",
         b"\x00\x7F",
@@ -104,10 +110,8 @@ fn bad_integers() -> Vec<Bad> {
         b"\x00\x00\x80",
         b"\x01\x00\x00\x00\x00\x00\x00\x00\x00",
         b"\x00\x80\x00\x00\x00\x00\x00\x00\x00",
-    ]
-    .iter()
-    .map(|content| Bad::one(6, content))
-    .collect()
+    ];
+    Bad::each(6, &contents)
 }
 
 /// Gives values that are not allowed, and badly formed integers that would not be allowed either.
@@ -154,15 +158,13 @@ fn bad_names() -> Vec<Bad> {
 
 /// Gives bytes outside IA5.
 fn bad_ia5() -> Vec<Bad> {
-    [&b"\x80"[..], b"\xFF", b"A\xC3\xA9", b"AB\x80", b"\x80A"]
-        .iter()
-        .map(|content| Bad::one(9, content))
-        .collect()
+    let contents = [&b"\x80"[..], b"\xFF", b"A\xC3\xA9", b"AB\x80", b"\x80A"];
+    Bad::each(9, &contents)
 }
 
 /// Gives bytes that are not UTF-8.
 fn bad_utf8() -> Vec<Bad> {
-    [
+    let contents = [
         &b"\x80"[..],
         b"\xBF",
         b"\xC0\x80",
@@ -186,10 +188,8 @@ fn bad_utf8() -> Vec<Bad> {
         b"\xFE",
         b"\xFF",
         b"ok\xE5\x8D\xB0\x80",
-    ]
-    .iter()
-    .map(|content| Bad::one(9, content))
-    .collect()
+    ];
+    Bad::each(9, &contents)
 }
 
 /// Gives bytes next to the printable ones.
@@ -217,7 +217,7 @@ fn bad_bits() -> Vec<Bad> {
 
 /// Gives identifiers that are too long, padded or unfinished.
 fn bad_identifiers() -> Vec<Bad> {
-    [
+    let contents = [
         &[0x01; 65][..],
         b"\x80",
         b"\x80\x01",
@@ -227,15 +227,13 @@ fn bad_identifiers() -> Vec<Bad> {
         b"\x2A\x81",
         b"\x2A\x81\x80",
         b"\xFF\xFF",
-    ]
-    .iter()
-    .map(|content| Bad::one(11, content))
-    .collect()
+    ];
+    Bad::each(11, &contents)
 }
 
 /// Gives times that are not fourteen digits of a real date and Z.
 fn bad_times() -> Vec<Bad> {
-    [
+    let contents = [
         "Z",
         "20240101000000",
         "2024010100000Z",
@@ -267,15 +265,13 @@ fn bad_times() -> Vec<Bad> {
         "20240101006000Z",
         "20240101000060Z",
         "20240101999999Z",
-    ]
-    .iter()
-    .map(|content| Bad::one(10, content.as_bytes()))
-    .collect()
+    ];
+    Bad::each(10, &contents)
 }
 
 /// Gives BOOLEAN contents other than FF alone.
 fn bad_booleans() -> Vec<Bad> {
-    [
+    let contents = [
         &b""[..],
         b"\x00",
         b"\x01",
@@ -283,10 +279,8 @@ fn bad_booleans() -> Vec<Bad> {
         b"\xFF\xFF",
         b"\xFF\x00",
         b"\x00\xFF",
-    ]
-    .iter()
-    .map(|content| Bad::one(13, content))
-    .collect()
+    ];
+    Bad::each(13, &contents)
 }
 
 /// Gives an integer's shortest content: the fewest bytes from which its sign can be told.
