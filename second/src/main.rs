@@ -121,13 +121,14 @@ fn print_lines(directory: &Path) -> io::Result<()> {
         .collect::<io::Result<_>>()?;
     names.retain(|path| path.extension().is_some_and(|end| end == "der"));
     names.sort();
+    let mut out = BufWriter::new(io::stdout().lock());
     for path in names {
         let case = Case::Read {
             kind: Kind::Signature,
             record: fs::read(&path)?,
         };
         let name = path.file_name().unwrap_or_default().to_string_lossy();
-        println!("{name} {}", answer(&case));
+        writeln!(out, "{name} {}", answer(&case))?;
     }
-    Ok(())
+    out.flush()
 }

@@ -91,8 +91,8 @@ abbrev pub isKind : ℤ → Bool
 isKind z = fromOne (pos 2) z
 
 -- "Kind 1", of the kind's content
-abbrev pub isKind1 : List ℕ → Bool
-isKind1 c = is 1 (value c)
+abbrev pub saysKind1 : List ℕ → Bool
+saysKind1 c = is 1 (value c)
 
 -- "width and height in mm, INTEGER 1 to 65,535"
 abbrev pub isMillimetres : ℤ → Bool

@@ -23,7 +23,7 @@ may-be-empty = true
 abbrev pub needs-a-byte : Bool
 needs-a-byte = false
 
--- an item whose section is the bytes that are handed out: its content after the bytes that every content of it begins with
+-- an item whose section, which is also what is handed out, is its content without the bytes `front`, with which every right content begins
 abbrev shown : ℕ → (r : List ℕ → Check) → (front : List ℕ) → ((c : List ℕ) → r c ≡ fine → some (front ++ drop (length front) c) ≡ some c) → Leaf
 shown t r front e = record { tag = t; rule = r; hidden = length front; pack = drop (length front); unpack = λ x. some (front ++ x); there = e; back = shown-back front; near = shown-near front }
 

@@ -16,8 +16,14 @@ pub record Form : Type 0 where
   pub from : ℕ
 
 -- "81 and one byte from 128; 82 and two from 256. Nothing else."
+abbrev pub one-byte : Form
+one-byte = record { octet = 0x81; bytes = 1; from = 128 }
+
+abbrev pub two-bytes : Form
+two-bytes = record { octet = 0x82; bytes = 2; from = 256 }
+
 abbrev pub forms : List Form
-forms = record { octet = 0x81; bytes = 1; from = 128 } ∷ record { octet = 0x82; bytes = 2; from = 256 } ∷ []
+forms = one-byte ∷ two-bytes ∷ []
 
 -- a length that no form has room for
 abbrev pub unspelled : ℕ

@@ -112,7 +112,7 @@ fn wide(b: u8) -> usize
     b as usize
 }
 
-// A length in bytes of its own after the first, if no shorter form has it.
+// A length after 81 or 82: bad below the least, since a shorter form has it.
 fn long(form: Form, header: usize, least: usize, content: usize) -> Length
     ensures { λ r. ⌜ r ≡ longOf form header least content ⌝ }
 {

@@ -128,7 +128,7 @@ writings =
     ∷ (written 100 (set fullSheet 22 0x03) 100, refusal too-many-items 19)
     -- a second string of 65,536 bytes, whose length no record can have
     ∷ (written 65535 (take 5 bareSheet ++ 0x00 ∷ 0x01 ∷ 0x00 ∷ 0x00 ∷ replicate 65536 0x5A ++ drop 10 bareSheet) 100, refusal too-large 0)
-    -- a list of none, and behind it what was its items
+    -- a list of none, and behind it what were its items
     ∷ (written 100 (set fullSheet 22 0x00) 100, refusal bad-sheet 23)
     ∷ []
 

@@ -29,7 +29,7 @@ mutual
     _▸_ : Member → Members → Members
 
   pub data Member : Type 0 where
-    known : Known → Member
+    known : Known → Member  -- an item of one content, which is no field
     one : Field → Item → Member
     maybe : Field → Item → Member  -- optional
     flag : Field → Member  -- a BOOLEAN, FALSE by default

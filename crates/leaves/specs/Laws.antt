@@ -5,7 +5,7 @@ use mathlib.Core.Bool.{false}
 use mathlib.Core.List.{List}
 use lib.ListN.{length, getD, List·getD-eq-default}
 use lib.Seq.{slice}
-use lib.Dec.{ltb, eqb}
+use lib.Dec.{eqb}
 use borrow.Author.Tests.{lt-ltb, le-ltb}
 use Rattle.terms.specs.Numbers.{left-over}
 use Rattle.terms.specs.Laws.Answer.{pick-lt, pick-ge}
@@ -25,7 +25,6 @@ use Rattle.layouts.specs.Scan.{judgeAt, ruleAt, beginsAt, closeAt}
 use Rattle.tables.specs.declared.Form.{Form}
 use Rattle.tables.specs.Table.{leafOf, knownOf}
 use Rattle.tables.specs.declared.Word.{Word}
-use Rattle.tables.specs.declared.Word.the-variants as word
 use Rattle.leaves.specs.Leaf.{judgedAt, pastOf}
 
 -- ---- a head, then a rule

@@ -43,8 +43,8 @@ fn word_tag(w: Word) -> Tag
     ensures { λ r. ⌜ tagByte r ≡ knownOf w .leaf .tag ⌝ }
 {
     match w {
-        Word::Es => Tag::Ia5String,
-        Word::Four => Tag::Integer,
+        Word::HeaderName => Tag::Ia5String,
+        Word::Version => Tag::Integer,
     }
 }
 
@@ -53,8 +53,8 @@ fn word_rule(s: &[u8], w: Word, at: usize, a: usize, z: usize) -> Checked
     ensures { λ r. ⌜ r ≡ checkedAt (knownRule (knownOf w)) (now (s .entry)) at a z ⌝ }
 {
     match w {
-        Word::Es => texts::header_name(s, at, a, z),
-        Word::Four => integers::version(s, at, a, z),
+        Word::HeaderName => texts::header_name(s, at, a, z),
+        Word::Version => integers::version(s, at, a, z),
     }
 }
 

@@ -4,7 +4,7 @@ use Rattle.terms.specs.declared.Field.{Field}
 use Rattle.terms.specs.declared.Field.the-variants.{SealInformation, Header, Vendor, SealId, Property, SealType, SealName, ListKind, CertificateList, ListedCertificate, ListedEntry, ListedName, ListedDigest, Created, Start, End, Picture, PictureType, PictureData, Width, Height, SealCustomData, SealCustomItem, SealCustomId, SealCustomCritical, SealCustomValue, MakerCertificate, SealAlgorithm, SealSignedValue, SignedPart, Seal, SigningTime, OriginalDigest, PropertyText, SignedCustomData, SignedCustomItem, SignedCustomId, SignedCustomCritical, SignedCustomValue, SignerCertificate, SignatureAlgorithm, SignatureValue, Stamp}
 use Rattle.terms.specs.Numbers.{most-items}
 use Rattle.contents.specs.Content.{Leaf}
-use Rattle.contents.specs.Integer.{any, isKind, isKind1, isMillimetres}
+use Rattle.contents.specs.Integer.{any, isKind, saysKind1, isMillimetres}
 use Rattle.contents.specs.Leaves.{may-be-empty, needs-a-byte, integer, bitString, octetString, identifier, utf8String, printableString, ia5String, generalizedTime, headerName, version}
 use Rattle.layouts.specs.Layout.{Item, leaf, node, list, wrap, Members, end, _▸_, Member, known, one, maybe, flag, choose}
 use Rattle.layouts.specs.Whole.{sequence}
@@ -49,7 +49,7 @@ digests = list sequence one-or-more most-items ListedEntry (node sequence (field
 abbrev pub property : Members
 property =
     field SealType (integer any) ▸ field SealName (utf8String may-be-empty)
-    ▸ choose ListKind (integer isKind) isKind1 CertificateList certificates digests
+    ▸ choose ListKind (integer isKind) saysKind1 CertificateList certificates digests
     ▸ field Created generalizedTime ▸ field Start generalizedTime ▸ field End generalizedTime ▸ end
 
 -- "Picture, SEQUENCE: type, IA5String; data, OCTET STRING; width and height in mm, INTEGER 1 to 65,535 (a house bound)."
@@ -60,15 +60,17 @@ picture =
 
 -- "Custom data, SEQUENCE of 0 to 64 SEQUENCEs: OBJECT IDENTIFIER; critical, BOOLEAN default FALSE; value, OCTET STRING."
 -- It stands in a seal and in a signed part, under names of each.
-abbrev pub customData : Field → Field → Field → Field → Item
-customData item id critical value′ =
-    list sequence none-or-more most-items item (node sequence (field id identifier ▸ flag critical ▸ field value′ (octetString may-be-empty) ▸ end))
+abbrev pub customItem : Field → Field → Field → Members
+customItem id critical value′ = field id identifier ▸ flag critical ▸ field value′ (octetString may-be-empty) ▸ end
+
+abbrev customData : Field → Members → Item
+customData item members = list sequence none-or-more most-items item (node sequence members)
 
 abbrev pub sealCustomData : Item
-sealCustomData = customData SealCustomItem SealCustomId SealCustomCritical SealCustomValue
+sealCustomData = customData SealCustomItem (customItem SealCustomId SealCustomCritical SealCustomValue)
 
 abbrev pub signedCustomData : Item
-signedCustomData = customData SignedCustomItem SignedCustomId SignedCustomCritical SignedCustomValue
+signedCustomData = customData SignedCustomItem (customItem SignedCustomId SignedCustomCritical SignedCustomValue)
 
 -- "Seal information, SEQUENCE: header; seal id, IA5String; property; picture; custom data, optional, untagged."
 abbrev pub sealInformation : Members

@@ -1,4 +1,4 @@
--- Runs of record S and steps of a run reader over them, evaluated. Every expected answer was worked out by hand from document 01. Assumes nothing.
+-- Runs of record S and steps of a run reader over them, evaluated. The expected answers are document 01's. Assumes nothing.
 use mathlib.Core.Path.{_≡_, refl}
 use Prim.Native.Nat.{ℕ}
 use mathlib.Core.List.{List, [], _∷_, _++_}
@@ -36,7 +36,7 @@ runs =
     ∷ (runAnswer signature SS, told-one done 2)
     ∷ (runAnswer signature (recordD ++ recordS ++ recordD), told-one done 3)
     ∷ (runAnswer seal (sealS ++ sealS), told-one done 2)
-    -- a fault in the first record, and where the second, the third must begin
+    -- a fault in the first record, and where the second and the third must begin
     ∷ (runAnswer signature (0x00 ∷ []), after other-tag 0 0)
     ∷ (runAnswer signature (recordS ++ 0x00 ∷ []), after other-tag 165 1)
     ∷ (runAnswer signature (SS ++ 0x00 ∷ []), after other-tag 330 2)

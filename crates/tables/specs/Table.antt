@@ -3,7 +3,7 @@ use mathlib.Core.List.{List, [], _∷_}
 use Rattle.terms.specs.declared.Field.{Field}
 use Rattle.terms.specs.Numbers.{most-items}
 use Rattle.contents.specs.Content.{Leaf}
-use Rattle.contents.specs.Integer.{any, isKind, isKind1, isMillimetres}
+use Rattle.contents.specs.Integer.{any, isKind, saysKind1, isMillimetres}
 use Rattle.contents.specs.Leaves as leaves
 use Rattle.contents.specs.Leaves.{may-be-empty, needs-a-byte}
 use Rattle.items.specs.Scan.{tagByte}
@@ -37,8 +37,8 @@ leafOf form.Millimetres = leaves.integer isMillimetres
 leafOf form.Critical = leaves.boolean
 
 abbrev pub knownOf : Word → leaves.Known
-knownOf word.Es = leaves.headerName
-knownOf word.Four = leaves.version
+knownOf word.HeaderName = leaves.headerName
+knownOf word.Version = leaves.version
 
 -- an item of a list
 abbrev itemIn : Item → Item
@@ -74,10 +74,6 @@ inner (node t r) = r
 inner (list t e n f i) = end
 inner (wrap t i) = end
 
--- the members of a custom item, of a seal or of a signed part; the name of the whole item is not among them
-abbrev pub customItem : Field → Field → Field → Members
-customItem id critical value′ = inner (itemIn (rules.customData id id critical value′))
-
 -- an item by its kind
 abbrev pub itemOf : Shape → Kind → Item
 itemOf x (kind.Leaf f) = leaf (leafOf f)
@@ -87,7 +83,7 @@ itemOf x (kind.Wrap t y) = wrap (tagByte t) (layoutOf y)
 
 -- the list kind, and the list that it decides on
 abbrev pub kindsOf : Field → Field → Shape → Shape → Part
-kindsOf f g x y = choose f (leafOf form.ListKind) isKind1 g (layoutOf x) (layoutOf y)
+kindsOf f g x y = choose f (leafOf form.ListKind) saysKind1 g (layoutOf x) (layoutOf y)
 
 -- a row, member by member
 abbrev pub membersOf : List Member → Members

@@ -5,9 +5,10 @@ ghost use mathlib.Core.Path.{_≡_};
 ghost use Prim.Native.Nat.{_≤_};
 ghost use Rattle.items.specs.Scan.{tagByte};
 ghost use Rattle.layouts.specs.Layout.{tagOf};
-ghost use Rattle.tables.specs.Table.{leafOf, inner, layoutOf, customItem, itemOf, membersOf};
+ghost use Rattle.records.specs.Record.{customItem};
+ghost use Rattle.tables.specs.Table.{leafOf, inner, layoutOf, itemOf, membersOf};
 
-// The members of a row, filled up.
+// How many members a row has, filled up with blanks.
 pub const MEMBERS: usize = 6;
 
 // What a primitive item holds; `Any`: it may have no bytes.
@@ -29,8 +30,8 @@ pub enum Form {
 
 // A member whose content is known: the header's name and the version.
 pub enum Word {
-    Es,
-    Four,
+    HeaderName,
+    Version,
 }
 
 // An item that has a row, stands in a list or stands in a tag of its own.
@@ -189,7 +190,7 @@ fn signed_part() -> [Member; MEMBERS]
     ensures { λ r. ⌜ inner (layoutOf Shape.SignedPart) ≡ membersOf r ⌝ }
 {
     [
-        Member::Known(Word::Four),
+        Member::Known(Word::Version),
         Member::Part(Field::Seal, Shape::Seal),
         Member::Leaf(Field::SigningTime, Form::Time),
         Member::Leaf(Field::OriginalDigest, Form::Bits),
@@ -231,8 +232,8 @@ fn header() -> [Member; MEMBERS]
     ensures { λ r. ⌜ inner (layoutOf Shape.Header) ≡ membersOf r ⌝ }
 {
     [
-        Member::Known(Word::Es),
-        Member::Known(Word::Four),
+        Member::Known(Word::HeaderName),
+        Member::Known(Word::Version),
         Member::Leaf(Field::Vendor, Form::AnyIa5),
         Member::Blank,
         Member::Blank,

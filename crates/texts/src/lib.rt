@@ -33,7 +33,8 @@ enum Alphabet {
     Utf8,
 }
 
-// What is to come after some bytes of a text: a new character; a byte from one number to another and so many tails (80 to BF) after it; or nothing, as they are no text.
+// What is to come after some bytes of a text: a new character; a byte from one number to another and so many tails (80 to BF) after it;
+// or nothing, as they are no text.
 enum Rest {
     Whole,
     Due(u8, u8, u8),
@@ -226,7 +227,11 @@ fn is_text(w: &[u8], alphabet: Alphabet) -> bool
     let mut i = 0;
     while i < w.len() {
         rest = next(alphabet, rest, w[i]);
-        i += 1;
+        match rest {
+            Rest::Whole => i += 1,
+            Rest::Due(_, _, _) => i += 1,
+            Rest::Never => return false,
+        }
     }
     match rest {
         Rest::Whole => true,

@@ -9,7 +9,7 @@ use Rattle.terms.specs.declared.Field.{Field}
 use Rattle.terms.specs.declared.Field.the-variants.{ListKind, Start, End, SigningTime, OriginalDigest, SignerCertificate, Stamp}
 use Rattle.terms.specs.Numbers.{valid, unreal-time, signature-bad, signer-unlisted, seal-bad, maker-bad, maker-out-of-force, outside-period, seal-withdrawn, signer-bad, outside-dates, signer-revoked, digest-differs, stamp-bad, after-stamp, signer-out-at-stamp}
 use Rattle.terms.specs.Answer.{Res, good, fault, pick, same, every, bit, Told, told-one, refusal}
-use Rattle.contents.specs.Integer.{isKind1}
+use Rattle.contents.specs.Integer.{saysKind1}
 use Rattle.contents.specs.Time.{Moment, notLater, momentOf, momentAt}
 use Rattle.layouts.specs.Layout.{Members, Values}
 use Rattle.layouts.specs.Fields.{Entry, fields, isField, first, bytesIn, isThere}
@@ -53,6 +53,7 @@ pub record Facts : Type 0 where
   pub original : List ℕ  -- the original digest that was found
   pub signer : List ℕ  -- the signer's digest that was found
 
+-- of an accepted record and what was found
 abbrev pub factsOf : (r : Members) → Values r → Findings → List ℕ → List ℕ → Facts
 factsOf r v f original signer = record { entries = fields r v; found = f; original = original; signer = signer }
 
@@ -75,7 +76,7 @@ inPeriod x t = between (moment Start x) (moment End x) t
 
 -- "kind 1, .. the signer certificate; kind 2, .. the signer's digest"
 unfoldable pub sought : Facts → List ℕ
-sought x = pick (isKind1 (the ListKind x)) (the SignerCertificate x) (x .signer)
+sought x = pick (saysKind1 (the ListKind x)) (the SignerCertificate x) (x .signer)
 
 unfoldable pub listed : Facts → Bool
 listed x = isThere (first (isListed (sought x)) (x .entries))

@@ -23,7 +23,7 @@ use Rattle.items.specs.declared.Tag.{Tag}
 use Rattle.items.specs.declared.Tag.the-variants as tag
 use Rattle.items.specs.Scan.{tagByte}
 use Rattle.contents.specs.Content.{Check, fine, wrong, ask}
-use Rattle.contents.specs.Integer.{wellFormed, isKind, isKind1}
+use Rattle.contents.specs.Integer.{wellFormed, isKind, saysKind1}
 use Rattle.contents.specs.Rules.{integerRule}
 use Rattle.contents.specs.Leaves.{knownRule}
 use Rattle.integers.specs.Number.{isOne}
@@ -34,7 +34,6 @@ use Rattle.leaves.specs.Leaf.{pastOf}
 use Rattle.tables.specs.declared.Form.{Form}
 use Rattle.tables.specs.declared.Form.the-variants as form
 use Rattle.tables.specs.declared.Word.{Word}
-use Rattle.tables.specs.declared.Word.the-variants as word
 use Rattle.tables.specs.declared.Shape.{Shape}
 use Rattle.tables.specs.declared.Kind.{Kind}
 use Rattle.tables.specs.declared.Kind.the-variants as kind
@@ -274,7 +273,7 @@ fine-well c h = go (wellFormed c) _ h
     go false k g = let y : _≡_ {A = ℕ} 0 1 = cc in let f : ⊥ = omega arith in absurd f
 
 -- a kind that was taken is 1 just where its number is
-one-is : (s : List ℕ) (p e a z : ℕ) (h : Seen) → h ≡ leafAt (leafOf form.ListKind) s p e → h ≡ At a z → isOne (slice a z s) ≡ isKind1 (slice a z s)
+one-is : (s : List ℕ) (p e a z : ℕ) (h : Seen) → h ≡ leafAt (leafOf form.ListKind) s p e → h ≡ At a z → isOne (slice a z s) ≡ saysKind1 (slice a z s)
 unfolding isOne
 one-is s p e a z h j b = rw (fine-well (slice a z s) (rule-taken 0x02 (integerRule isKind) s p e a z (sym j ∙ b) .1))
 
@@ -362,8 +361,7 @@ onward w k = (thenStep (w .0) λ q. k q (w .1) .0, afterStep (w .0) (w .1) λ q.
 row-split : (m : Member) (ms : List Member) (n : ℕ) (s : List ℕ) (p e : ℕ) (d : List ℕ) → rowWalk (membersOf (m ∷ ms)) n s p e d ≡ (onward (memberWalk m n s p e d) λ q t. rowWalk (membersOf ms) n s q e t)
 unfolding rowWalk memberWalk itemWalk scan marks
 row-split member.Blank ms n s p e d = refl
-row-split (member.Known word.Es) ms n s p e d = refl
-row-split (member.Known word.Four) ms n s p e d = refl
+row-split (member.Known w) ms n s p e d = refl
 row-split (member.Leaf f l) ms n s p e d = refl
 row-split (member.Part f x) ms n s p e d = refl
 row-split (member.Maybe f x) ms n s p e d = refl
@@ -373,8 +371,7 @@ row-split (member.Kinds f g x y) ms n s p e d = refl
 size-split : (m : Member) (ms : List Member) → sizeOf m + sizes (membersOf ms) ≤ sizes (membersOf (m ∷ ms))
 unfolding size sizeOf
 size-split member.Blank ms = omega arith
-size-split (member.Known word.Es) ms = omega arith
-size-split (member.Known word.Four) ms = omega arith
+size-split (member.Known w) ms = omega arith
 size-split (member.Leaf f l) ms = omega arith
 size-split (member.Part f x) ms = omega arith
 size-split (member.Maybe f x) ms = omega arith

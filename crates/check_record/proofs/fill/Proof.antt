@@ -6,7 +6,6 @@ use borrow.Author.Needs.{needs}
 use Rattle.check_record.specs.Laws.{moved, inside, less, filled}
 use Rattle.check_record.proofs.fill.Statement.{statement}
 use Rattle.check_record.proofs.fill.Tie as tie
-use Rattle.check_record.proofs.read_some.Reads as read-some-reads
 
 abbrev Inv-loop : tie.InvT-loop
 Inv-loop buf₀ n₀ buf n = (n ≤ length buf) × (length buf ≡ length buf₀)

@@ -3,10 +3,6 @@ use Rattle.check_record.specs.Laws.{counted}
 use borrow.Author.Needs.{needs}
 use Rattle.check_record.proofs.main.Statement.{statement}
 use Rattle.check_record.proofs.main.Tie as tie
-use Rattle.check_record.proofs.fill.Reads as fill-reads
-use Rattle.check_record.proofs.print.Reads as print-reads
-use Rattle.os.proofs.fail.Reads as fail-reads
-use Rattle.readers.proofs.read_signature.Reads as read-signature-reads
 
 slice-aggregate-fill : tie.Need-slice-aggregate-fill
 slice-aggregate-fill c = search needs

@@ -1,5 +1,6 @@
 -- `items::length_at`: the byte after the tag picks the form; 81 and 82 by one law over the form.
-use Rattle.items.specs.Laws.Scan.{length-missing, length-short, length-other, one, two, one-reads, two-reads, long-cut, one-read, two-read}
+use Rattle.heads.specs.Head.{one-byte, two-bytes}
+use Rattle.items.specs.Laws.Scan.{length-missing, length-short, length-other, one-reads, two-reads, long-cut, one-read, two-read}
 use borrow.Author.Needs.{needs}
 use Rattle.items.proofs.length_at.Statement.{statement}
 use Rattle.items.proofs.length_at.Tie as tie
@@ -17,7 +18,7 @@ shared-slice-read-b : tie.Need-shared-slice-read-b
 shared-slice-read-b c = search needs
 
 returns-2 : tie.Need-returns-2
-returns-2 c = search (needs, long-cut one one-reads)
+returns-2 c = search (needs, long-cut one-byte one-reads)
 
 add-wide : tie.Need-add-wide
 add-wide c = search needs
@@ -32,7 +33,7 @@ long-requires : tie.Need-long-requires
 long-requires c κs = search needs
 
 returns-3 : tie.Need-returns-3
-returns-3 c = search (needs, long-cut two two-reads)
+returns-3 c = search (needs, long-cut two-bytes two-reads)
 
 add-wide-2 : tie.Need-add-wide-2
 add-wide-2 c = search needs

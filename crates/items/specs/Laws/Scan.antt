@@ -17,7 +17,7 @@ use Rattle.terms.specs.Digits.{digits, numberFrom, number, isByte, leading}
 use Rattle.terms.specs.Laws.Digits.{leading-there, digits-number, number-small}
 use Rattle.terms.specs.Laws.Answer.{test, pick-yes, pick-no, pick-lt, pick-ge, bind-eq}
 use Rattle.heads.specs.Head as Head
-use Rattle.heads.specs.Head.{forms, unspelled, spell, octets, Size, unspell, size, opening, Cut, before, cut, head, outermost}
+use Rattle.heads.specs.Head.{one-byte, two-bytes, forms, unspelled, spell, octets, Size, unspell, size, opening, Cut, before, cut, head, outermost}
 use Rattle.heads.specs.Laws.Head.{size-back, octets-below, opening-rest}
 use Rattle.heads.specs.Scan.{seen, headAt, outermostAt}
 use Rattle.windows.specs.Window.{clamp}
@@ -38,17 +38,11 @@ use Rattle.items.specs.declared.Opening.the-variants.{Opened, Refused as
 abbrev Reads : Head.Form → Type 0
 Reads f = (p : ℕ) (w : List ℕ) → size p (f .octet ∷ w) ≡ (bind (have (leading (f .bytes) w) bad-length p) λ z. need (leb (f .from) (z .0)) bad-length p (good z))
 
-abbrev pub one : Head.Form
-one = record { octet = 0x81; bytes = 1; from = 128 }
-
-abbrev pub two : Head.Form
-two = record { octet = 0x82; bytes = 2; from = 256 }
-
-pub one-reads : Reads one
+pub one-reads : Reads one-byte
 unfolding size unspell pick
 one-reads p w = refl
 
-pub two-reads : Reads two
+pub two-reads : Reads two-bytes
 unfolding size unspell pick
 two-reads p w = refl
 
@@ -94,14 +88,14 @@ module _ (s : List ℕ) (p e : ℕ) where
   pub one-read : (n : ℕ) (r : Length) → 3 ≤ e - p → e ≤ length s → getD s (p + 1) 0 ≡ 0x81 → n ≡ getD s (p + 2) 0 → n < 256 → r ≡ longOf OneByte 3 128 n → r ≡ lengthAt s p e
   unfolding every numberFrom formOf pick
   one-read n r h k f q b g =
-      g ∙ long-read one one-reads s p e (omega arith) k f n (n ∷ []) (slice (p + 2 + 1) e s) (rw q (byte-at s (p + 2) e (omega arith) k)) refl (rw (lt-ltb n 256 b) tt) (omega arith)
+      g ∙ long-read one-byte one-reads s p e (omega arith) k f n (n ∷ []) (slice (p + 2 + 1) e s) (rw q (byte-at s (p + 2) e (omega arith) k)) refl (rw (lt-ltb n 256 b) tt) (omega arith)
 
   pub two-read : (c d : ℕ) (r : Length) → 4 ≤ e - p → e ≤ length s → getD s (p + 1) 0 ≡ 0x82 → c ≡ getD s (p + 2) 0 → d ≡ getD s (p + 3) 0 → c < 256 → d < 256 → r ≡ longOf TwoBytes 4 256 (c * 256 + d) → r ≡ lengthAt s p e
   unfolding every numberFrom formOf pick
   two-read c d r h k f q q′ b b′ g =
       let i : p + 2 + 1 ≡ p + 3 = omega arith in
       let v : slice (p + 2) e s ≡ c ∷ d ∷ slice (p + 3 + 1) e s = rw (q, q′, byte-at s (p + 2) e (omega arith) k, i) (ap (λ (w : List ℕ). getD s (p + 2) 0 ∷ w) (byte-at s (p + 3) e (omega arith) k)) in
-      g ∙ long-read two two-reads s p e (omega arith) k f (c * 256 + d) (c ∷ d ∷ []) (slice (p + 3 + 1) e s) v refl (rw (lt-ltb c 256 b, lt-ltb d 256 b′) tt) (omega arith)
+      g ∙ long-read two-bytes two-reads s p e (omega arith) k f (c * 256 + d) (c ∷ d ∷ []) (slice (p + 3 + 1) e s) v refl (rw (lt-ltb c 256 b, lt-ltb d 256 b′) tt) (omega arith)
 
 -- ---- a length that is refused is refused so
 
@@ -166,12 +160,12 @@ module _ (t : ℕ) (s : List ℕ) (p e : ℕ) where
 abbrev pub roomAt : ℕ → ℕ → ℕ → ℕ → Seen
 roomAt p h n e = pick (ltb (e - (p + h)) n) (Refused past-end p) (Item (p + h) (p + h + n))
 
--- a length has at most three bytes
 pick-most : (t : Bool) (x y : List ℕ) (m : ℕ) → length x ≤ m → length y ≤ m → length (pick t x y) ≤ m
 unfolding pick
 pick-most true x y m h k = h
 pick-most false x y m h k = k
 
+-- a length has at most three bytes
 octets-most : (n : ℕ) → length (octets n) ≤ 3
 unfolding octets spell digits
 octets-most n = pick-most _ _ _ 3 (lit≤ tt) (pick-most _ _ _ 3 (lit≤ tt) (pick-most _ _ _ 3 (lit≤ tt) (lit≤ tt)))

@@ -3,7 +3,6 @@ use Rattle.leaves.specs.Laws.{begins-end, begins-out, begins-in}
 use borrow.Author.Needs.{needs}
 use Rattle.leaves.proofs.begins.Statement.{statement}
 use Rattle.leaves.proofs.begins.Tie as tie
-use Rattle.items.proofs.tag_byte.Reads as tag-byte-reads
 
 returns : tie.Need-returns
 returns c = search (needs, begins-end)

@@ -3,10 +3,6 @@ use Rattle.leaves.specs.Laws.{rule-refused, rule-judged}
 use borrow.Author.Needs.{needs}
 use Rattle.leaves.proofs.known.Statement.{statement}
 use Rattle.leaves.proofs.known.Tie as tie
-use Rattle.items.proofs.head.Reads as head-reads
-use Rattle.leaves.proofs.judged.Reads as judged-reads
-use Rattle.leaves.proofs.word_rule.Reads as word-rule-reads
-use Rattle.leaves.proofs.word_tag.Reads as word-tag-reads
 
 word-tag-requires : tie.Need-word-tag-requires
 word-tag-requires c κs = search needs

@@ -3,10 +3,6 @@ use Rattle.leaves.specs.Laws.{rule-refused, rule-judged}
 use borrow.Author.Needs.{needs}
 use Rattle.leaves.proofs.leaf.Statement.{statement}
 use Rattle.leaves.proofs.leaf.Tie as tie
-use Rattle.items.proofs.head.Reads as head-reads
-use Rattle.leaves.proofs.judged.Reads as judged-reads
-use Rattle.leaves.proofs.rule.Reads as rule-reads
-use Rattle.tables.proofs.tag_of_form.Reads as tag-of-form-reads
 
 tag-of-form-requires : tie.Need-tag-of-form-requires
 tag-of-form-requires c κs = search needs

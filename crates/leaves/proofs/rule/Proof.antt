@@ -3,15 +3,6 @@ use Rattle.leaves.specs.Laws.{form-rule}
 use borrow.Author.Needs.{needs}
 use Rattle.leaves.proofs.rule.Statement.{statement}
 use Rattle.leaves.proofs.rule.Tie as tie
-use Rattle.integers.proofs.integer.Reads as integer-reads
-use Rattle.texts.proofs.bits.Reads as bits-reads
-use Rattle.texts.proofs.boolean.Reads as boolean-reads
-use Rattle.texts.proofs.ia5.Reads as ia5-reads
-use Rattle.texts.proofs.identifier.Reads as identifier-reads
-use Rattle.texts.proofs.octets.Reads as octets-reads
-use Rattle.texts.proofs.printable.Reads as printable-reads
-use Rattle.texts.proofs.utf8.Reads as utf8-reads
-use Rattle.times.proofs.time.Reads as time-reads
 
 enum-told : tie.Need-enum-told
 enum-told c = search needs

@@ -3,8 +3,6 @@ use Rattle.leaves.specs.Laws.{word-rule}
 use borrow.Author.Needs.{needs}
 use Rattle.leaves.proofs.word_rule.Statement.{statement}
 use Rattle.leaves.proofs.word_rule.Tie as tie
-use Rattle.integers.proofs.version.Reads as version-reads
-use Rattle.texts.proofs.header_name.Reads as header-name-reads
 
 enum-told : tie.Need-enum-told
 enum-told c = search needs

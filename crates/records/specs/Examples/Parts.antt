@@ -1,4 +1,4 @@
--- What is handed out as a part, by every name that has one, evaluated. Every expected place was counted by hand in the bytes of D. Assumes nothing.
+-- What is handed out as a part, by every name that has one, evaluated. The expected places are those of the bytes of S and D. Assumes nothing.
 use mathlib.Core.Path.{_≡_, refl}
 use Prim.Native.Nat.{ℕ}
 use mathlib.Core.List.{List, [], _∷_, _++_}

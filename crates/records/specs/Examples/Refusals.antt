@@ -1,4 +1,4 @@
--- Records, refused with each number that a record can get, and at its place. Every expected answer was worked out by hand from document 01. Assumes nothing.
+-- Records, refused with each number that a record can get, and at its place. The expected answers are document 01's. Assumes nothing.
 use mathlib.Core.Path.{_≡_}
 use Prim.Native.Nat.{ℕ, suc, zero}
 use mathlib.Core.List.{List, [], _∷_, _++_}

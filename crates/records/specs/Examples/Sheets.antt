@@ -1,5 +1,5 @@
 -- Sheets, evaluated: those of S and D byte by byte, each fault that a sheet can have, and what a destination holds after each answer.
--- Every expected answer was worked out by hand from document 01. Assumes nothing.
+-- The expected answers are document 01's. Assumes nothing.
 use mathlib.Core.Path.{_≡_, refl}
 use Prim.Native.Nat.{ℕ}
 use mathlib.Core.List.{List, [], _∷_, _++_}

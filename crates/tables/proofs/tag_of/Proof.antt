@@ -3,8 +3,6 @@ use Rattle.tables.specs.Laws.{tag-leaf, tag-node, tag-list, tag-wrap}
 use borrow.Author.Needs.{needs}
 use Rattle.tables.proofs.tag_of.Statement.{statement}
 use Rattle.tables.proofs.tag_of.Tie as tie
-use Rattle.tables.proofs.kind_of.Reads as kind-of-reads
-use Rattle.tables.proofs.tag_of_form.Reads as tag-of-form-reads
 
 kind-of-requires : tie.Need-kind-of-requires
 kind-of-requires c κs = search needs

@@ -1,4 +1,4 @@
--- Each return is one case of the definition.
+-- `texts::ask`: each return is one case of the definition.
 use Rattle.contents.specs.Content.{ask, placeOf}
 use Rattle.texts.proofs.ask.Statement.{statement}
 use Rattle.texts.proofs.ask.Tie as tie

@@ -1,4 +1,4 @@
--- Each return is one case of the first test; the second is the callee's.
+-- `texts::ask_two`: each return is one case of the first test; the second is the callee's.
 use Rattle.contents.specs.Content.{ask, placeOf}
 use borrow.Author.Needs.{needs}
 use Rattle.texts.proofs.ask_two.Statement.{statement}

@@ -1,4 +1,4 @@
--- Where no part begins the answer is no, else it is the comparison.
+-- `texts::begins_with_80`: where no part begins the answer is no, else it is the comparison.
 use borrow.Author.Needs.{needs}
 use Rattle.texts.proofs.begins_with_80.Statement.{statement}
 use Rattle.texts.proofs.begins_with_80.Tie as tie

@@ -1,4 +1,4 @@
--- The rule has a case for no byte, and else asks the two tests.
+-- `texts::bits`: the rule has a case for no byte, and else asks the two tests.
 use Rattle.texts.specs.Laws.Rules.{bits-none, bits-rule}
 use borrow.Author.Needs.{needs}
 use Rattle.texts.proofs.bits.Statement.{statement}

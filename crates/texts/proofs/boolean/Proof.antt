@@ -1,4 +1,4 @@
--- The rule asks only whether the content is FF alone.
+-- `texts::boolean`: the rule asks only whether the content is FF alone.
 use Rattle.texts.specs.Laws.Rules.{boolean-rule}
 use borrow.Author.Needs.{needs}
 use Rattle.texts.proofs.boolean.Statement.{statement}

@@ -1,4 +1,4 @@
--- The byte lies outside its range, is the last that is due, or has tails after it.
+-- `texts::due`: the byte lies outside its range, is the last that is due, or has tails after it.
 use Rattle.texts.specs.Laws.Text.{due-low, due-high, due-last, due-on}
 use borrow.Author.Needs.{needs}
 use Rattle.texts.proofs.due.Statement.{statement}

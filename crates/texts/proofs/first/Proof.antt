@@ -1,4 +1,4 @@
--- Each arm names its alphabet, and the callee answers for it.
+-- `texts::first`: each arm names its alphabet, and the callee answers for it.
 use Rattle.texts.specs.Laws.Text.{of-alphabet}
 use borrow.Author.Needs.{needs}
 use Rattle.texts.proofs.first.Statement.{statement}

@@ -1,4 +1,4 @@
--- The rule is that of the string, then the comparison with "ES".
+-- `texts::header_name`: the rule is that of the string, then the comparison with "ES".
 use Rattle.texts.specs.Laws.Rules.{header-text, header-rule}
 use borrow.Author.Needs.{needs}
 use Rattle.texts.proofs.header_name.Statement.{statement}

@@ -1,4 +1,4 @@
--- The alphabet is one row, 00 to 7F.
+-- `texts::ia5_rest`: the alphabet is one row, 00 to 7F.
 use Rattle.contents.specs.Text.{ia5}
 use Rattle.texts.specs.Laws.Text.{begins, begins-none}
 use borrow.Author.Needs.{needs}

@@ -1,4 +1,4 @@
--- The rule asks only whether the content is an identifier.
+-- `texts::identifier`: the rule asks only whether the content is an identifier.
 use Rattle.texts.specs.Laws.Rules.{identifier-rule}
 use borrow.Author.Needs.{needs}
 use Rattle.texts.proofs.identifier.Statement.{statement}

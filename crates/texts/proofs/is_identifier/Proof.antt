@@ -1,4 +1,4 @@
--- Each return is one case of the definition: no byte, more than 64, whole parts or not.
+-- `texts::is_identifier`: each return is one case of the definition: no byte, more than 64, whole parts or not.
 use Rattle.texts.specs.Laws.Text.{identifier-none, identifier-long, identifier-parts}
 use borrow.Author.Needs.{needs}
 use Rattle.texts.proofs.is_identifier.Statement.{statement}

@@ -1,4 +1,4 @@
--- Each arm names what is to come: a character begins, a byte is due, or it is no text any more.
+-- `texts::next`: each arm names what is to come: a character begins, a byte is due, or it is no text any more.
 use Rattle.texts.specs.Laws.Text.{of-rest}
 use borrow.Author.Needs.{needs}
 use Rattle.texts.proofs.next.Statement.{statement}

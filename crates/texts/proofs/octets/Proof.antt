@@ -1,4 +1,4 @@
--- The rule asks only whether a byte that is needed is there.
+-- `texts::octets`: the rule asks only whether a byte that is needed is there.
 use Rattle.texts.specs.Laws.Rules.{octets-rule}
 use borrow.Author.Needs.{needs}
 use Rattle.texts.proofs.octets.Statement.{statement}

@@ -1,4 +1,4 @@
--- Each arm that takes a byte names the row of the alphabet that has it; between the arms there is no row.
+-- `texts::printable_rest`: each arm that takes a byte names the row of the alphabet that has it; between the arms there is no row.
 use Rattle.contents.specs.Text.{printable}
 use Rattle.texts.specs.Laws.Text.{begins, begins-none}
 use borrow.Author.Needs.{needs}

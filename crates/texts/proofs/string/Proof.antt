@@ -1,4 +1,4 @@
--- The rule asks the two tests.
+-- `texts::string`: the rule asks whether a byte that is needed is there, then whether all are text.
 use Rattle.texts.specs.Laws.Rules.{string-rule}
 use borrow.Author.Needs.{needs}
 use Rattle.texts.proofs.string.Statement.{statement}

@@ -1,4 +1,4 @@
--- Each arm names the row of the first byte; between the arms there is no row.
+-- `texts::utf8_rest`: each arm names the row of the first byte; between the arms there is no row.
 use Rattle.contents.specs.Text.{utf8}
 use Rattle.texts.specs.Laws.Text.{begins, begins-none}
 use borrow.Author.Needs.{needs}

@@ -1,4 +1,4 @@
--- The loop keeps that the bytes from `i` on are whole parts just where all are, `begins` being whether one begins at `i`.
+-- `texts::whole_parts`: the loop keeps that the bytes from `i` on are whole parts just where all are, `begins` being whether one begins at `i`.
 use mathlib.Core.Path.{_≡_, refl}
 use mathlib.Core.Bool.{true}
 use Prim.Native.Nat.{_-_}

@@ -96,6 +96,9 @@ module _ (xs : List Character) (w : List ℕ) (i : ℕ) (x : Rest) (is : isText 
   pub text-on : (y : Rest) → i < length w → Steps xs x (getD w i 0) y → isText xs w ≡ textAfter xs y (drop (i + 1) w)
   text-on y h e = is ∙ rw (add-one, drop-cons w i 0) (e (drop (suc i) w))
 
+  pub text-bad : (y : Rest) → i < length w → Steps xs x (getD w i 0) y → y ≡ Never → false ≡ isText xs w
+  text-bad y h e n = sym (text-on y h e ∙ rw n)
+
   pub text-end : (y : Rest) (t : Bool) → length w ≤ i → x ≡ y → t ≡ textAfter xs y [] → t ≡ isText xs w
   text-end y t h e f = f ∙ sym (is ∙ rw (drop-of-length-le w h, e))
 

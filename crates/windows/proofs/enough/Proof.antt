@@ -1,4 +1,4 @@
--- A byte is there just where `a` is below `z`; the first return is where none is needed.
+-- `windows::enough`: a byte is there just where `a` is below `z`; the first return is where none is needed.
 use borrow.Author.Needs.{needs}
 use Rattle.windows.proofs.enough.Statement.{statement}
 use Rattle.windows.proofs.enough.Tie as tie

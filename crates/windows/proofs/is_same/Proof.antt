@@ -1,4 +1,4 @@
--- Windows of two lengths differ; of one length the loop keeps that what is left from `i` on is the whole answer.
+-- `windows::is_same`: windows of two lengths differ; of one length the loop keeps that what is left from `i` on is the whole answer.
 use mathlib.Core.Path.{_≡_, refl}
 use Prim.Native.Nat.{_-_}
 use lib.ListN.{length, drop}
