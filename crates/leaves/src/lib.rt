@@ -17,18 +17,23 @@ ghost use Rattle.leaves.specs.Leaf.{judgedAt, pastOf};
 // Bytes left after the last item.
 const LEFT_OVER: u8 = 5;
 
+// A string whose bytes may be none, and one that needs a byte.
+const MAY_BE_EMPTY: bool = true;
+
+const NEEDS_A_BYTE: bool = false;
+
 // A content by the rule of its form.
 fn rule(s: &[u8], f: Form, at: usize, a: usize, z: usize) -> Checked
     ensures { λ r. ⌜ r ≡ checkedAt (leafOf f .rule) (now (s .entry)) at a z ⌝ }
 {
     match f {
-        Form::Octets => texts::octets(s, at, a, z, false),
-        Form::AnyOctets => texts::octets(s, at, a, z, true),
+        Form::Octets => texts::octets(s, at, a, z, NEEDS_A_BYTE),
+        Form::AnyOctets => texts::octets(s, at, a, z, MAY_BE_EMPTY),
         Form::Bits => texts::bits(s, at, a, z),
-        Form::Ia5 => texts::ia5(s, at, a, z, false),
-        Form::AnyIa5 => texts::ia5(s, at, a, z, true),
-        Form::AnyPrintable => texts::printable(s, at, a, z, true),
-        Form::AnyUtf8 => texts::utf8(s, at, a, z, true),
+        Form::Ia5 => texts::ia5(s, at, a, z, NEEDS_A_BYTE),
+        Form::AnyIa5 => texts::ia5(s, at, a, z, MAY_BE_EMPTY),
+        Form::AnyPrintable => texts::printable(s, at, a, z, MAY_BE_EMPTY),
+        Form::AnyUtf8 => texts::utf8(s, at, a, z, MAY_BE_EMPTY),
         Form::Identifier => texts::identifier(s, at, a, z),
         Form::Time => times::time(s, at, a, z),
         Form::Integer => integers::integer(s, at, a, z, Allowed::Any),

@@ -11,6 +11,11 @@ ghost use Rattle.tables.specs.Table.{leafOf, inner, layoutOf, itemOf, me
 // How many members a row has, filled up with blanks.
 pub const MEMBERS: usize = 6;
 
+// The items of a list.
+const ONE_OR_MORE: bool = false;
+
+const NONE_OR_MORE: bool = true;
+
 // What a primitive item holds; `Any`: it may have no bytes.
 pub enum Form {
     Octets,
@@ -130,17 +135,22 @@ pub fn kind_of(x: Shape) -> Kind
         Shape::Property => Kind::Node(Tag::Sequence),
         Shape::Certificates => Kind::List(
             Tag::Sequence,
-            false,
+            ONE_OR_MORE,
             Field::ListedCertificate,
             Shape::Certificate,
         ),
         Shape::Certificate => Kind::Leaf(Form::Octets),
-        Shape::Digests => Kind::List(Tag::Sequence, false, Field::ListedEntry, Shape::Digest),
+        Shape::Digests => Kind::List(
+            Tag::Sequence,
+            ONE_OR_MORE,
+            Field::ListedEntry,
+            Shape::Digest,
+        ),
         Shape::Digest => Kind::Node(Tag::Sequence),
         Shape::Picture => Kind::Node(Tag::Sequence),
         Shape::SealCustomData => Kind::List(
             Tag::Sequence,
-            true,
+            NONE_OR_MORE,
             Field::SealCustomItem,
             Shape::SealCustomItem,
         ),
@@ -148,7 +158,7 @@ pub fn kind_of(x: Shape) -> Kind
         Shape::TaggedCustomData => Kind::Wrap(Tag::Context0, Shape::SignedCustomData),
         Shape::SignedCustomData => Kind::List(
             Tag::Sequence,
-            true,
+            NONE_OR_MORE,
             Field::SignedCustomItem,
             Shape::SignedCustomItem,
         ),

@@ -12,12 +12,6 @@ ghost use Rattle.times.specs.Laws.Whole.{told, closing, dateIn, clockIn}
 ghost use Rattle.times.specs.Laws.Real.{there};
 use contents::Checked;
 
-// A number that was read, or none.
-enum Reading {
-    Number(u64),
-    Nothing,
-}
-
 // The number of every refusal of a time.
 const BAD_TIME: u8 = 10;
 
@@ -49,6 +43,12 @@ const TIME_BYTES: usize = 15;
 
 // The days of each month, January first, in a year that is no leap year.
 const MONTHS: [u64; 12] = [31, 28, 31, 30, 31, 30, 31, 31, 30, 31, 30, 31];
+
+// A number that was read, or none.
+enum Reading {
+    Number(u64),
+    Nothing,
+}
 
 // A year is a leap year if 4 divides it, and, where 100 divides it, 400 too.
 fn is_leap(y: u64) -> bool
