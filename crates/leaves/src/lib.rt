@@ -6,6 +6,8 @@ use integers::Allowed;
 use items::Tag;
 use tables::Form;
 use tables::Word;
+use texts::MAY_BE_EMPTY;
+use texts::NEEDS_A_BYTE;
 ghost use mathlib.Core.Path.{_≡_};
 ghost use Rattle.contents.specs.Leaves.{knownRule};
 ghost use Rattle.contents.specs.Scan.{checkedAt};
@@ -16,11 +18,6 @@ ghost use Rattle.leaves.specs.Leaf.{judgedAt, pastOf};
 
 // Bytes left after the last item.
 const LEFT_OVER: u8 = 5;
-
-// A string whose bytes may be none, and one that needs a byte.
-const MAY_BE_EMPTY: bool = true;
-
-const NEEDS_A_BYTE: bool = false;
 
 // A content by the rule of its form.
 fn rule(s: &[u8], f: Form, at: usize, a: usize, z: usize) -> Checked

@@ -26,6 +26,11 @@ const BAD_BOOLEAN: u8 = 13;
 
 const NO_BYTES: u8 = 14;
 
+// A string whose bytes may be none, and one that needs a byte.
+pub const MAY_BE_EMPTY: bool = true;
+
+pub const NEEDS_A_BYTE: bool = false;
+
 // The alphabets of strings.
 enum Alphabet {
     Ia5,
@@ -279,7 +284,7 @@ pub fn utf8(s: &[u8], at: usize, a: usize, z: usize, empty: bool) -> Checked
 pub fn header_name(s: &[u8], at: usize, a: usize, z: usize) -> Checked
     ensures { λ r. ⌜ r ≡ checkedAt (knownRule headerName) (now (s .entry)) at a z ⌝ }
 {
-    let text = ia5(s, at, a, z, false);
+    let text = ia5(s, at, a, z, NEEDS_A_BYTE);
     let Checked::Fine = text else {
         return text;
     };
