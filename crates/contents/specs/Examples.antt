@@ -13,8 +13,8 @@ use Rattle.contents.specs.Content.{toldCheck, ask, passes}
 use Rattle.contents.specs.Integer.{sign, shortest, wellFormed, turned, value, eight, shrink, contentOf, any, isKind, isMillimetres}
 use Rattle.contents.specs.Text.{within, starts, follows, textFrom, ia5, printable, utf8, partsFrom, isIdentifier}
 use Rattle.contents.specs.Time.{leap, monthLength, possible, isDigit, partFrom, zulu, timeFrom, timeCheck, timeRule, written, isReal}
-use Rattle.contents.specs.Rules.{integerRule, stringRule, octetsRule, bitsRule, identifierRule, booleanRule, also, onlyRule}
-use Rattle.contents.specs.Leaves.{may-be-empty, needs-a-byte, headerName, version, knownRule}
+use Rattle.contents.specs.Rules.{may-be-empty, needs-a-byte, integerRule, stringRule, octetsRule, bitsRule, identifierRule, booleanRule, also, onlyRule}
+use Rattle.contents.specs.Leaves.{headerName, version, knownRule}
 
 evaluate : Unit {0}
 unfolding pick bind need every enough same sameWhole sameWholes sameTold agree digits numberFrom ask passes sign shortest wellFormed turned value eight shrink contentOf within starts follows textFrom partsFrom isIdentifier leap monthLength possible isDigit partFrom zulu timeFrom timeCheck timeRule written isReal integerRule stringRule octetsRule bitsRule identifierRule booleanRule also onlyRule

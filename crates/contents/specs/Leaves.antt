@@ -1,7 +1,7 @@
 -- The primitive items of document 01: tag, rule and section. "A string, identifier or time is a section of its content bytes
 -- (a bit string without its 00). An integer is a section of 8 bytes." Assumes nothing.
 use mathlib.Core.Path.{_≡_, refl}
-use mathlib.Core.Bool.{Bool, true, false}
+use mathlib.Core.Bool.{Bool}
 use mathlib.Core.Option.{some}
 use mathlib.Core.List.{List, [], _∷_, _++_}
 use Prim.Native.Nat.{ℕ}
@@ -12,16 +12,9 @@ use Rattle.contents.specs.Content.{Check, fine, Leaf}
 use Rattle.contents.specs.Integer.{stretch, unstretch, any}
 use Rattle.contents.specs.Text as Text
 use Rattle.contents.specs.Time.{timeRule}
-use Rattle.contents.specs.Rules.{integerRule, stringRule, octetsRule, bitsRule, identifierRule, booleanRule, onlyRule}
+use Rattle.contents.specs.Rules.{needs-a-byte, integerRule, stringRule, octetsRule, bitsRule, identifierRule, booleanRule, onlyRule}
 use Rattle.contents.specs.Laws.Leaves.{shown-back, shown-near, integer-there, bits-there}
 use Rattle.contents.specs.Laws.Integer.{stretch-back, stretch-near}
-
--- a string whose bytes may be none, and one that needs a byte
-abbrev pub may-be-empty : Bool
-may-be-empty = true
-
-abbrev pub needs-a-byte : Bool
-needs-a-byte = false
 
 -- an item whose section, which is also what is handed out, is its content without the bytes `front`, with which every right content begins
 abbrev shown : ℕ → (r : List ℕ → Check) → (front : List ℕ) → ((c : List ℕ) → r c ≡ fine → some (front ++ drop (length front) c) ≡ some c) → Leaf

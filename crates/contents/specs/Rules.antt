@@ -1,5 +1,5 @@
 -- The rules of contents, with 01's order of refusals in each: "6 before 7, 12 before 14, 14 and 9 before 8". Assumes nothing.
-use mathlib.Core.Bool.{Bool, false}
+use mathlib.Core.Bool.{Bool, true, false}
 use mathlib.Core.List.{List, [], _∷_}
 use Prim.Native.Nat.{ℕ}
 use lib.Dec.{eqb}
@@ -10,11 +10,18 @@ use Rattle.contents.specs.Content.{Check, fine, wrong, tag, ask}
 use Rattle.contents.specs.Integer.{wellFormed, value}
 use Rattle.contents.specs.Text.{Character, isText, isIdentifier}
 
+-- a string whose bytes may be none, and one that needs a byte
+abbrev pub may-be-empty : Bool
+may-be-empty = true
+
+abbrev pub needs-a-byte : Bool
+needs-a-byte = false
+
 -- 6, then 7 by a test of the number
 unfoldable pub integerRule : (ℤ → Bool) → List ℕ → Check
 integerRule allowed c = ask (wellFormed c) bad-integer (ask (allowed (value c)) not-allowed fine)
 
--- 14 where a byte is needed (`false`), then 9
+-- 14 where a byte is needed, then 9
 unfoldable pub stringRule : List Character → Bool → List ℕ → Check
 stringRule alphabet empty c = ask (enough empty c) no-bytes (ask (isText alphabet c) bad-character fine)
 
@@ -24,7 +31,7 @@ octetsRule empty c = ask (enough empty c) no-bytes fine
 -- "first byte 00, then whole bytes"
 unfoldable pub bitsRule : List ℕ → Check
 bitsRule [] = wrong bad-bits tag
-bitsRule (a ∷ c) = ask (eqb a 0x00) bad-bits (ask (enough false c) no-bytes fine)
+bitsRule (a ∷ c) = ask (eqb a 0x00) bad-bits (ask (enough needs-a-byte c) no-bytes fine)
 
 unfoldable pub identifierRule : List ℕ → Check
 identifierRule c = ask (isIdentifier c) bad-identifier fine

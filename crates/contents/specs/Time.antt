@@ -55,6 +55,10 @@ notLater (moment a) (moment b) = leb a b
 abbrev pub year-digits : ℕ
 year-digits = 4
 
+-- and a time: two for each of the other five parts
+abbrev time-digits : ℕ
+time-digits = year-digits + 10
+
 -- "fourteen digits and Z, .., years 0000 to 9999, hours 00 to 23, minutes and seconds 00 to 59"
 unfoldable pub timeFrom : ℕ → List ℕ → ℕ → Res (Got Moment)
 timeFrom width w b =
@@ -89,10 +93,10 @@ momentOf c = momentIn (timeFrom year-digits c 0)
 
 -- "a whole number whose fourteen decimal digits, leading zeros included, are the date and time"
 unfoldable pub written : ℕ → List ℕ
-written n = map (λ d. 0x30 + d) (digits 10 (year-digits + 10) n) ++ (0x5A ∷ [])
+written n = map (λ d. 0x30 + d) (digits 10 time-digits n) ++ (0x5A ∷ [])
 
 unfoldable pub isReal : ℕ → Bool
-isReal n = ltb n (10 ^ (year-digits + 10)) && passes (timeRule (written n))
+isReal n = ltb n (10 ^ time-digits) && passes (timeRule (written n))
 
 -- the moment that a finding says
 abbrev pub momentAt : ℕ → Moment

@@ -11,8 +11,8 @@ use Rattle.terms.specs.Digits.{digits, numberFrom, leading}
 use Rattle.terms.specs.Laws.Table.{Row, asks, answers, sameWhole, sameWholes, sameTold, agree, agreed}
 use Rattle.heads.specs.Head.{spell, octets, tlv, unspell, size, opening, cut, head, outermost}
 use Rattle.contents.specs.Content.{ask, placeOf, judge}
-use Rattle.contents.specs.Rules.{octetsRule, booleanRule}
-use Rattle.contents.specs.Leaves.{needs-a-byte, octetString}
+use Rattle.contents.specs.Rules.{needs-a-byte, octetsRule, booleanRule}
+use Rattle.contents.specs.Leaves.{octetString}
 use Rattle.layouts.specs.Layout.{Members, end, _▸_, leaf, node, list, one, maybe, flag, choose, each, option, either, critical, encode}
 use Rattle.layouts.specs.Reading.{readBy, begins, finish, many, readOption, readFlag, readEither, read}
 use Rattle.layouts.specs.Sheet.{count, section, bit, sheetOption, sheetList, sheet, readCount, readSection, fillLeaf, times, unbit, fillFlag, fillOption, fillList, fill}

@@ -10,7 +10,8 @@ use Rattle.terms.specs.Laws.Table.{Row, asks, answers, agreed}
 use Rattle.heads.specs.Head.{size}
 use Rattle.contents.specs.Content.{Leaf, toldCheck}
 use Rattle.contents.specs.Integer.{value, any}
-use Rattle.contents.specs.Leaves.{may-be-empty, integer, identifier, utf8String, generalizedTime}
+use Rattle.contents.specs.Rules.{may-be-empty}
+use Rattle.contents.specs.Leaves.{integer, identifier, utf8String, generalizedTime}
 use Rattle.layouts.specs.Layout.{leaf}
 use Rattle.layouts.specs.Reading.{read}
 use Rattle.verdicts.specs.declared.Revocation.the-variants.{Never, At}

@@ -5,7 +5,8 @@ use Rattle.terms.specs.declared.Field.the-variants.{SealInformation, Header, Ve
 use Rattle.terms.specs.Numbers.{most-items}
 use Rattle.contents.specs.Content.{Leaf}
 use Rattle.contents.specs.Integer.{any, isKind, saysKind1, isMillimetres}
-use Rattle.contents.specs.Leaves.{may-be-empty, needs-a-byte, integer, bitString, octetString, identifier, utf8String, printableString, ia5String, generalizedTime, headerName, version}
+use Rattle.contents.specs.Rules.{may-be-empty, needs-a-byte}
+use Rattle.contents.specs.Leaves.{integer, bitString, octetString, identifier, utf8String, printableString, ia5String, generalizedTime, headerName, version}
 use Rattle.layouts.specs.Layout.{Item, leaf, node, list, wrap, Members, end, _▸_, Member, known, one, maybe, flag, choose}
 use Rattle.layouts.specs.Whole.{sequence}
 

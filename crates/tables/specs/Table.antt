@@ -5,7 +5,7 @@ use Rattle.terms.specs.Numbers.{most-items}
 use Rattle.contents.specs.Content.{Leaf}
 use Rattle.contents.specs.Integer.{any, isKind, saysKind1, isMillimetres}
 use Rattle.contents.specs.Leaves as leaves
-use Rattle.contents.specs.Leaves.{may-be-empty, needs-a-byte}
+use Rattle.contents.specs.Rules.{may-be-empty, needs-a-byte}
 use Rattle.items.specs.Scan.{tagByte}
 use Rattle.layouts.specs.Layout.{Item, leaf, node, list, wrap, Members, end, _▸_, Member as Part, known, one, maybe, flag, choose}
 use Rattle.layouts.specs.Whole.{sequence}
