@@ -3,12 +3,12 @@ use mathlib.Core.Path.{_≡_}
 use Prim.Native.Nat.{ℕ, suc, zero}
 use mathlib.Core.List.{List, [], _∷_, _++_}
 use lib.ListN.{set, take, drop}
-use Rattle.terms.specs.declared.Field.the-variants.{CertificateList}
+use Rattle.terms.specs.declared.Field.the-variants.{CertificateList, ListedName, ListedDigest}
 use Rattle.terms.specs.Numbers.{done, item-missing, other-tag, bad-length, past-end, left-over, bad-integer, not-allowed, not-es, bad-character, bad-time, bad-identifier, bad-bits, bad-boolean, no-bytes, no-item, too-many-items, too-large}
-use Rattle.terms.specs.Answer.{Told, told-one, refusal}
+use Rattle.terms.specs.Answer.{Told, told-one, told-two, refusal}
 use Rattle.terms.specs.Laws.Table.{Row, asks, answers, agreed}
 use Rattle.records.specs.Record.{seal, signature}
-use Rattle.records.specs.Handing.{recordAnswer, fillAnswer, writeAnswer, countAnswer}
+use Rattle.records.specs.Handing.{recordAnswer, fillAnswer, writeAnswer, fieldAnswer, countAnswer}
 use Rattle.records.specs.Samples.{recordS, recordD}
 use Rattle.records.specs.Examples.{evaluate}
 
@@ -150,6 +150,14 @@ listOf0 =
     ++ 0x30 ∷ 0x3D ∷ beforeList
     ++ 0x30 ∷ 0x00 ∷ behindList
 
+-- S with kind 2 and a digest under an empty PrintableString: each length around it is 4 more
+abbrev unnamed : List ℕ
+unnamed =
+    0x30 ∷ 0x81 ∷ 0xA6 ∷ 0x30 ∷ 0x81 ∷ 0x92 ∷ 0x02 ∷ 0x01 ∷ 0x04
+    ∷ 0x30 ∷ 0x75 ∷ 0x30 ∷ 0x62 ∷ beforeProperty
+    ++ 0x30 ∷ 0x44 ∷ set beforeList 7 0x02
+    ++ 0x30 ∷ 0x07 ∷ 0x30 ∷ 0x05 ∷ 0x13 ∷ 0x00 ∷ 0x04 ∷ 0x01 ∷ 0xAA ∷ behindList
+
 -- S with a list of 64: the list has 192 bytes, the property 254, the seal information 285, the seal 306, the signed part 337, the record 358
 abbrev listOf64 : List ℕ
 listOf64 =
@@ -170,6 +178,10 @@ listOf65 last =
 abbrev lists : List Row
 lists =
     (gets listOf0, refusal no-item 37)
+    -- "May have no bytes: .. digest's PrintableString"
+    ∷ (gets unnamed, told-one done 169)
+    ∷ (fieldAnswer signature ListedName 0 unnamed, told-two done 43 0)
+    ∷ (fieldAnswer signature ListedDigest 0 unnamed, told-two done 45 1)
     ∷ (gets listOf64, told-one done 362)
     ∷ (countAnswer signature CertificateList listOf64, told-one done 64)
     ∷ (gets (listOf65 (0x04 ∷ 0x01 ∷ 0xAA ∷ [])), refusal too-many-items 240)
