@@ -12,8 +12,8 @@ use lib.IntN.{ℤ}
 use lib.Dec.{T, leb}
 use Rattle.terms.specs.declared.Field.{Field}
 use Rattle.terms.specs.declared.Field.the-variants.{SignedPart, SealInformation}
-use Rattle.terms.specs.Numbers.{largest-record, unreal-time}
-use Rattle.terms.specs.Answer.{Res, good, fault, every, answered}
+use Rattle.terms.specs.Numbers.{largest-record, unreal-time, done, run-end}
+use Rattle.terms.specs.Answer.{Res, good, fault, every, answered, told-two, told-none, refusal}
 use Rattle.terms.specs.Laws.Answer.{good-inj, and-r}
 use Rattle.terms.specs.Digits.{isByte}
 use Rattle.contents.specs.Integer.{value, contentOf, wellFormed, Fits}
@@ -27,9 +27,10 @@ use Rattle.layouts.specs.Laws.Reading.{clear, clears, spare, prefix-free}
 use Rattle.layouts.specs.Laws.Whole as Whole
 use Rattle.layouts.specs.Laws.Fields.{fields-stand, first-stands}
 use Rattle.records.specs.Record.{sealInformation, seal, signedPart, signature}
-use Rattle.records.specs.Handing.{readRecord, recordAnswer, fieldsOf, fieldsIn, fillFrom, writeFrom, fillAfter, writeAfter, signedBytes, informationOf, signedPartOf, sealOf}
+use Rattle.records.specs.Handing.{readRecord, recordAnswer, fieldsOf, fieldsIn, fillFrom, writeFrom, fillAfter, writeAfter, fieldAnswer, isListed, matchAnswer, valueAnswer, criticalAnswer, countAnswer, signedBytes, informationOf, signedPartOf, sealOf}
 use Rattle.records.specs.Laws.Record as Record
-use Rattle.runs.specs.Run.{runOf, whole, stopped, readRun, hereAt, taken, ended, faulty}
+use Rattle.records.specs.Laws.Handing as Handing
+use Rattle.runs.specs.Run.{runOf, whole, stopped, readRun, Reader, hereAt, taken, ended, faulty, oneMore, stepAfter, stepAnswer, refusal-after}
 use Rattle.runs.specs.Laws.Run as Runs
 use Rattle.verdicts.specs.Verdict.{firstFailing, First, takesNotice, Facts, factsOf, signatureSteps, signatureValid, sealSteps, sealValid, makerOut, judged, signatureVerdict, sealVerdict}
 use Rattle.verdicts.specs.Findings.{allReal}
@@ -90,7 +91,26 @@ module _ (r : Members) (k : Clear r) where
 
   pub handed-out-stands-there : (w : List ℕ) (v : Values r) → readRecord r w ≡ good v → (p : Entry → Bool) (x : Entry) → first p (fields r v) ≡ some x
       → take (length (x .bytes)) (drop (x .place) w) ≡ x .bytes
-  handed-out-stands-there w v e p x h = first-stands (Stands w) p (fields r v) x (fields-stand-there w v e) h
+  handed-out-stands-there w v e p x h = first-stands (Stands w) p (fields r v) x (fields-stand-there w v e) h .0
+
+  -- what is told of a field's place is the field's own bytes there
+  pub part-is-the-field : (w : List ℕ) (v : Values r) → readRecord r w ≡ good v → (f : Field) (i a n : ℕ) → fieldAnswer r f i w ≡ told-two done a n
+      → (x : Entry) × (first (isField f i) (fields r v) ≡ some x) × (take n (drop a w) ≡ x .bytes)
+  part-is-the-field w v e f i a n h =
+      let t = Handing.part-told r w v e f i a n h in
+      (t .0, t .1, rw (t .2, t .3) at (handed-out-stands-there w v e (isField f i) (t .0) (t .1)))
+
+  -- "given record and digest, the first equal entry in the record": what stands there is what was given
+  pub match-is-the-given : (w : List ℕ) (v : Values r) → readRecord r w ≡ good v → (given : List ℕ) (a n : ℕ) → matchAnswer r given w ≡ told-two done a n → take n (drop a w) ≡ given
+  match-is-the-given w v e given a n h =
+      let t = Handing.match-told r w v e given a n h in
+      let s = first-stands (Stands w) (isListed given) (fields r v) (t .0) (fields-stand-there w v e) (t .1) in
+      rw (t .2, t .3) at (s .0) ∙ Handing.listed-is given (t .0) (s .1)
+
+  -- a refused record answers every question with its refusal
+  pub refused-is-told : (w : List ℕ) (n p : ℕ) → readRecord r w ≡ fault n p → (f : Field) (i : ℕ) (given : List ℕ)
+      → (fieldAnswer r f i w ≡ refusal n p) × (matchAnswer r given w ≡ refusal n p) × (valueAnswer r f w ≡ refusal n p) × (criticalAnswer r f i w ≡ refusal n p) × (countAnswer r f w ≡ refusal n p)
+  refused-is-told w n p e f i given = Handing.refused-told r w n p e f i given
 
   -- so do those that a reader's table of places tells: its second and third number are the field's start and length
   pub placed-stands-there : (w : List ℕ) (v : Values r) → readRecord r w ≡ good v → (d : List ℕ) → Placed (fieldsIn r w) d → (f : Field) (x : Entry) → first (isField f 0) (fields r v) ≡ some x
@@ -141,12 +161,23 @@ module _ (r : Members) (k : Clear r) where
       → (rest : List ℕ) × (w ≡ runOf r vs ++ rest) × All (Right r) vs × (hereAt r w (length (runOf r vs)) ≡ faulty n p)
   refused-run-stops w vs n p e = Runs.run-stops r w vs n p e
 
-  -- the run reader goes from record to record, and ends at the end
+  -- the run reader sees a record where one begins, and the end at the end
   pub reader-takes-a-record : (s p : List ℕ) (v : Values r) (w : List ℕ) → Right r v → s ≡ p ++ (recordOf r v ++ w) → hereAt r s (length p) ≡ taken (v, w, length p + length (recordOf r v))
   reader-takes-a-record s p v w ok e = Runs.here-there r inner s p v w ok e
 
   pub reader-ends : (s : List ℕ) (p : ℕ) → length s ≤ p → hereAt r s p ≡ ended
   reader-ends s p h = Runs.here-end r s p h
+
+  -- it hands a record out where it stands, and goes on behind it with one more handed out; at the end and at a fault it stays
+  pub reader-goes-on : (s p : List ℕ) (v : Values r) (w : List ℕ) (x : Reader) → Right r v → s ≡ p ++ (recordOf r v ++ w) → x .position ≡ length p
+      → (stepAnswer r s x ≡ told-two done (x .position) (length (recordOf r v))) × (stepAfter r s x ≡ record { position = x .position + length (recordOf r v); handed = oneMore (x .handed) })
+  reader-goes-on s p v w x ok e h = Runs.step-takes r s x (v, w, x .position + length (recordOf r v)) (length (recordOf r v)) (rw h (reader-takes-a-record s p v w ok e)) refl
+
+  pub reader-stays-at-the-end : (s : List ℕ) (x : Reader) → length s ≤ x .position → (stepAnswer r s x ≡ told-none run-end) × (stepAfter r s x ≡ x)
+  reader-stays-at-the-end s x h = Runs.step-ends r s x (reader-ends s (x .position) h)
+
+  pub reader-stays-at-a-fault : (s : List ℕ) (x : Reader) (n p : ℕ) → hereAt r s (x .position) ≡ faulty n p → (stepAnswer r s x ≡ refusal-after n p (x .handed)) × (stepAfter r s x ≡ x)
+  reader-stays-at-a-fault s x n p h = Runs.step-faults r s x n p h
 
   -- "two lists of values never give the same bytes"
   pub two-lists-differ : (us vs : List (Values r)) → All (Right r) us → All (Right r) vs → runOf r us ≡ runOf r vs → us ≡ vs

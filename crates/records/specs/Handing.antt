@@ -73,7 +73,7 @@ toldEntry none = told-none absent
 toldEntry (some x) = told-two done (x .place) (length (x .bytes))
 
 -- "the bytes its section has, or the signed bytes": the fields that are handed out as parts. Integers and critical come as values.
-abbrev partNames : List Field
+abbrev pub partNames : List Field
 partNames =
     SealInformation ∷ Vendor ∷ SealId ∷ SealName ∷ ListedCertificate ∷ ListedName ∷ ListedDigest ∷ Created ∷ Start
     ∷ End ∷ PictureType ∷ PictureData ∷ SealCustomId ∷ SealCustomValue ∷ MakerCertificate ∷ SealAlgorithm ∷ SealSignedValue ∷ SignedPart

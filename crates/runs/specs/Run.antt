@@ -18,7 +18,7 @@ abbrev pub runOf : (r : Members) → List (Values r) → List ℕ
 runOf r vs = each (λ v. recordOf r v) vs
 
 -- a refusal with the number of records before it
-abbrev refusal-after : ℕ → ℕ → ℕ → Told
+abbrev pub refusal-after : ℕ → ℕ → ℕ → Told
 refusal-after n p k = refuses n (pos p ∷ pos k ∷ [])
 
 -- ---- a whole run

@@ -8,7 +8,7 @@ use mathlib.Core.Option.{none, some}
 use mathlib.Core.List.{List, [], _∷_, _++_, append-assoc, append-nil}
 use lib.ListN.{length, take, drop, length-append, drop-of-length-le}
 use lib.Seq.{take-at, drop-at, drop-drop, drop-append-le}
-use lib.Dec.{leb, leb→le, nleb→lt}
+use lib.Dec.{T, leb, leb→le, nleb→lt}
 use Rattle.terms.specs.declared.Field.{Field}
 use Rattle.terms.specs.Laws.Answer.{test, pick-yes, pick-no}
 use Rattle.heads.specs.Head.{tlv, octets, before}
@@ -126,11 +126,11 @@ fields-stand r v =
     let m : length (sequence ∷ octets (length c)) ≡ before (length c) = omega arith in
     rw m at (run-placed (recordOf r v) r 0 v (sequence ∷ octets (length c)) [] (n .0))
 
--- and so does the one that is asked for
-pub first-stands : (P : Entry → Type 0) (p : Entry → Bool) (xs : List Entry) (x : Entry) → All P xs → first p xs ≡ some x → P x
+-- and so does the one that is asked for, which passes what it is asked for by
+pub first-stands : (P : Entry → Type 0) (p : Entry → Bool) (xs : List Entry) (x : Entry) → All P xs → first p xs ≡ some x → P x × T (p x)
 unfolding first
 first-stands P p [] x h e = let z : _≡_ {A = ℕ} 0 1 = cc in let y : ⊥ = omega arith in absurd y
 first-stands P p (y ∷ ys) x h e =
     test (p y)
-    (λ t. let q : some y ≡ some x = sym (pick-yes (p y) _ _ t) ∙ e in let u : y ≡ x = cc in rw (← u) (h .0))
+    (λ t. let q : some y ≡ some x = sym (pick-yes (p y) _ _ t) ∙ e in let u : y ≡ x = cc in rw (← u) (h .0, t))
     (λ t. first-stands P p ys x (h .1) (sym (pick-no (p y) _ _ t) ∙ e))

@@ -1,20 +1,20 @@
 -- A run of records reads back exactly its list, and every accepted run is such a list. Assumes nothing.
 use mathlib.Core.Path.{_≡_, refl, sym, ap, _∙_, subst}
-use Prim.Native.Nat.{ℕ, suc, zero, _+_, _≤_}
+use Prim.Native.Nat.{ℕ, suc, zero, _+_, _-_, _≤_}
 use native.Mathlib.Omega.{arith}
 use mathlib.Core.List.{List, [], _∷_, _++_, append-assoc}
 use lib.ListN.{length, drop, length-append}
 use lib.Seq.{drop-at}
 use lib.Dec.{T}
-use Rattle.terms.specs.Numbers.{largest-record}
-use Rattle.terms.specs.Answer.{Res, good, fault, Got}
+use Rattle.terms.specs.Numbers.{largest-record, done, run-end}
+use Rattle.terms.specs.Answer.{Res, good, fault, Got, told-two, told-none}
 use Rattle.heads.specs.Head.{tlv, octets}
 use Rattle.heads.specs.Laws.Head.{length-tlv}
 use Rattle.layouts.specs.Layout.{Members, Values, All, each, encodes}
 use Rattle.layouts.specs.Whole.{sequence, recordOf, Allowed, recordAt}
 use Rattle.layouts.specs.Laws.Reading.{clears}
 use Rattle.layouts.specs.Laws.Whole.{recordAt-back, recordAt-there}
-use Rattle.runs.specs.Run.{runOf, Ran, whole, stopped, andThen, onward, runFrom, readRun, taken, ended, faulty, hereOf, hereIn, hereAt}
+use Rattle.runs.specs.Run.{runOf, Ran, whole, stopped, andThen, onward, runFrom, readRun, Reader, taken, ended, faulty, hereOf, hereIn, hereAt, oneMore, stepAfter, stepAnswer, refusal-after}
 
 -- a value whose record is accepted
 abbrev Accepted : (r : Members) → Values r → Type 0
@@ -169,3 +169,18 @@ module _ (r : Members) where
   pub here-end : (s : List ℕ) (p : ℕ) → length s ≤ p → hereAt r s p ≡ ended
   unfolding hereAt hereIn
   here-end s p h = rw (lib.ListN.drop-of-length-le s {i = p} h)
+
+  -- ---- a step of the run reader, by what it sees
+
+  pub step-takes : (s : List ℕ) (x : Reader) (a : Got (Values r)) (n : ℕ) → hereAt r s (x .position) ≡ taken a → a .2 ≡ x .position + n
+      → (stepAnswer r s x ≡ told-two done (x .position) n) × (stepAfter r s x ≡ record { position = x .position + n; handed = oneMore (x .handed) })
+  unfolding stepAnswer stepAfter
+  step-takes s x a n e h = let f : x .position + n - x .position ≡ n = omega arith in (rw (e, h, f) refl, rw (e, h) refl)
+
+  pub step-ends : (s : List ℕ) (x : Reader) → hereAt r s (x .position) ≡ ended → (stepAnswer r s x ≡ told-none run-end) × (stepAfter r s x ≡ x)
+  unfolding stepAnswer stepAfter
+  step-ends s x e = (rw e refl, rw e refl)
+
+  pub step-faults : (s : List ℕ) (x : Reader) (n p : ℕ) → hereAt r s (x .position) ≡ faulty n p → (stepAnswer r s x ≡ refusal-after n p (x .handed)) × (stepAfter r s x ≡ x)
+  unfolding stepAnswer stepAfter
+  step-faults s x n p e = (rw e refl, rw e refl)
