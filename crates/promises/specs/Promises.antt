@@ -16,8 +16,8 @@ use Rattle.terms.specs.Numbers.{largest-record, unreal-time, done, run-end}
 use Rattle.terms.specs.Answer.{Res, good, fault, every, answered, told-two, told-none, refusal}
 use Rattle.terms.specs.Laws.Answer.{good-inj, and-r}
 use Rattle.terms.specs.Digits.{isByte}
-use Rattle.contents.specs.Integer.{value, contentOf, wellFormed, Fits}
-use Rattle.contents.specs.Laws.Integer.{value-contentOf, contentOf-value, contentOf-wellFormed}
+use Rattle.contents.specs.Integer.{value, contentOf, wellFormed, Fits, eight, stretch}
+use Rattle.contents.specs.Laws.Integer.{value-contentOf, contentOf-value, contentOf-wellFormed, eight-stretch}
 use Rattle.layouts.specs.Layout.{node, Members, Values, All, encode}
 use Rattle.layouts.specs.Sheet.{sheets}
 use Rattle.layouts.specs.Whole.{sequence, recordOf, Allowed, acceptSheet}
@@ -255,3 +255,7 @@ integer-there z h = (contentOf-wellFormed z, value-contentOf z h)
 
 pub integer-back : (c : List ℕ) → T (every isByte c) → T (wellFormed c) → (contentOf (value c) ≡ c) × Fits (value c)
 integer-back c h k = contentOf-value c h k
+
+-- "An integer is a section of 8 bytes.": those of its number, big-endian, in two's complement
+pub integer-section : (c : List ℕ) → T (every isByte c) → T (wellFormed c) → stretch c ≡ eight (value c)
+integer-section c h k = sym (eight-stretch c h k)

@@ -11,7 +11,7 @@ ghost use Rattle.tables.specs.Table.{leafOf, inner, layoutOf, itemOf, me
 // How many members a row has, filled up with blanks.
 pub const MEMBERS: usize = 6;
 
-// The items of a list.
+// Whether a list may have no item.
 const ONE_OR_MORE: bool = false;
 
 const NONE_OR_MORE: bool = true;

@@ -90,12 +90,6 @@ unfolding have
 by-have (some b) n p a e f = f (ap some (good-inj e))
 by-have none n p a e f = clash e
 
-pub by-pair {ℓ} : {A B : Type 0} {X : Type ℓ} {a c : A} {b d : B} → _≡_ {A = Res (A × B)} (good (a, b)) (good (c, d)) → (a ≡ c → b ≡ d → X) → X
-by-pair e f = f (ap (λ x. x .0) (good-inj e)) (ap (λ x. x .1) (good-inj e))
-
-pub by-three {ℓ} : {A B C : Type 0} {X : Type ℓ} {a d : A} {b e : B} {c f : C} → _≡_ {A = Res (A × B × C)} (good (a, b, c)) (good (d, e, f)) → (a ≡ d → b ≡ e → c ≡ f → X) → X
-by-three q g = g (ap (λ x. x .0) (good-inj q)) (ap (λ x. x .1) (good-inj q)) (ap (λ x. x .2) (good-inj q))
-
 -- ---- forwards
 
 pub bind-eq : {A B : Type 0} {r : Res A} {a : A} (k : A → Res B) → r ≡ good a → bind r k ≡ k a
