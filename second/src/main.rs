@@ -8,35 +8,83 @@ use second::generate::tree::signature_input;
 use second::generate::values::SignatureValue;
 use second::generate::{generate, SEED};
 use std::fs::{self, File};
-use std::io::{self, BufReader, BufWriter, Write};
+use std::io::{self, BufReader, BufWriter, Read, Write};
+use std::num::NonZeroUsize;
 use std::path::Path;
 use std::process::ExitCode;
 
 /// The number of records that openssl was shown.
 const RECORDS: usize = 500;
 
-const USAGE: &str = "usage: second make DIRECTORY | second answer CASES | second records DIRECTORY\n       second signatures CASES EACH DIRECTORY | second lines DIRECTORY";
+/// The most bytes that are read of one record: no byte after them changes its answer.
+const MOST_READ: u64 = 65_536;
+
+const REFUSED: u8 = 1;
+const FAILED: u8 = 2;
+
+const USAGE: &str = "usage: second check [FILE] | second lines DIRECTORY | second answer CASES
+       second make DIRECTORY | second records DIRECTORY | second signatures CASES EACH DIRECTORY
+Exit status: 0 done, for check accepted; 1 refused; 2 failed.";
 
 /// Runs the command that the arguments name.
 fn main() -> ExitCode {
-    let arguments: Vec<String> = std::env::args().skip(1).collect();
-    let done = match arguments.iter().map(String::as_str).collect::<Vec<_>>()[..] {
-        ["make", directory] => make(Path::new(directory)),
-        ["answer", cases] => answer_all(Path::new(cases)),
-        ["records", directory] => write_records(Path::new(directory)),
-        ["signatures", cases, each, directory] => {
-            write_signatures(Path::new(cases), each, Path::new(directory))
-        }
-        ["lines", directory] => print_lines(Path::new(directory)),
-        _ => Err(io::Error::other(USAGE)),
-    };
-    match done {
-        Ok(()) => ExitCode::SUCCESS,
+    let words: Vec<String> = std::env::args_os()
+        .skip(1)
+        .map(|word| word.to_string_lossy().into_owned())
+        .collect();
+    match run(&words.iter().map(String::as_str).collect::<Vec<_>>()) {
+        Ok(status) => status,
         Err(error) => {
-            eprintln!("second: {error}");
-            ExitCode::FAILURE
+            // where nothing can be said the status says it
+            let _ = writeln!(io::stderr(), "second: {error}");
+            ExitCode::from(FAILED)
         }
     }
+}
+
+/// Runs a command; gives the exit status.
+fn run(words: &[&str]) -> io::Result<ExitCode> {
+    match *words {
+        ["check"] | ["check", "-"] => return check(io::stdin().lock(), "standard input"),
+        ["check", path] => return check(open(path)?, path),
+        ["make", directory] => make(Path::new(directory)),
+        ["answer", cases] => answer_all(cases),
+        ["records", directory] => write_records(Path::new(directory)),
+        ["signatures", cases, each, directory] => {
+            write_signatures(cases, each, Path::new(directory))
+        }
+        ["lines", directory] => print_lines(Path::new(directory)),
+        ["-h" | "--help"] => writeln!(io::stdout(), "{USAGE}"),
+        _ => Err(io::Error::other(USAGE)),
+    }?;
+    Ok(ExitCode::SUCCESS)
+}
+
+/// Says which file an error is about.
+fn about(name: &str, error: io::Error) -> io::Error {
+    io::Error::new(error.kind(), format!("{name}: {error}"))
+}
+
+/// Opens a file.
+fn open(path: &str) -> io::Result<File> {
+    File::open(path).map_err(|error| about(path, error))
+}
+
+/// Prints the line of one signature record; gives whether it is accepted.
+fn check(input: impl Read, name: &str) -> io::Result<ExitCode> {
+    let mut record = Vec::new();
+    input
+        .take(MOST_READ)
+        .read_to_end(&mut record)
+        .map_err(|error| about(name, error))?;
+    let kind = Kind::Signature;
+    let line = answer(&Case::Read { kind, record });
+    writeln!(io::stdout(), "{line}")?;
+    Ok(if line.starts_with("ACCEPTED") {
+        ExitCode::SUCCESS
+    } else {
+        ExitCode::from(REFUSED)
+    })
 }
 
 /// Writes the case file and the answers, and prints what they reach.
@@ -63,8 +111,8 @@ fn make(directory: &Path) -> io::Result<()> {
 }
 
 /// Prints the answers to the cases of a case file.
-fn answer_all(path: &Path) -> io::Result<()> {
-    let mut file = BufReader::new(File::open(path)?);
+fn answer_all(path: &str) -> io::Result<()> {
+    let mut file = BufReader::new(open(path)?);
     let mut out = BufWriter::new(io::stdout().lock());
     while let Some(bytes) = unpack(&mut file)? {
         let Some(case) = Case::from_bytes(&bytes) else {
@@ -88,9 +136,11 @@ fn write_records(directory: &Path) -> io::Result<()> {
 }
 
 /// Writes each so many-th signature record of a case file, one a file, and beside them the line that each is answered with.
-fn write_signatures(path: &Path, each: &str, directory: &Path) -> io::Result<()> {
-    let each: usize = each.parse().map_err(io::Error::other)?;
-    let mut file = BufReader::new(File::open(path)?);
+fn write_signatures(path: &str, each: &str, directory: &Path) -> io::Result<()> {
+    let Ok(each) = each.parse::<NonZeroUsize>() else {
+        return Err(io::Error::other(format!("{each}: no number from 1 on")));
+    };
+    let mut file = BufReader::new(open(path)?);
     let mut lines = String::new();
     let mut number = 0;
     while let Some(bytes) = unpack(&mut file)? {

@@ -2,6 +2,7 @@
 
 mod asn1parse;
 mod cases;
+mod command;
 mod hand;
 mod numbers;
 mod paper;
