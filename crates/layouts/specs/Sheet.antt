@@ -26,9 +26,9 @@ unfoldable pub section : List ℕ → List ℕ
 section x = count (length x) ++ x
 
 -- "critical, of one byte 0 or 1"
-unfoldable pub bit : Bool → List ℕ
-bit true = 1 ∷ []
-bit false = 0 ∷ []
+unfoldable pub criticalByte : Bool → List ℕ
+criticalByte true = 1 ∷ []
+criticalByte false = 0 ∷ []
 
 -- "An optional field has count 0 or 1, then itself."
 unfoldable pub sheetOption : {A : Type 0} → (A → List ℕ) → Option A → List ℕ
@@ -54,7 +54,7 @@ unfoldable mutual
   sheetPart (known k) v = []
   sheetPart (one f i) v = sheet i v
   sheetPart (maybe f i) v = sheetOption (λ x. sheet i x) v
-  sheetPart (flag f) v = section (bit v)
+  sheetPart (flag f) v = section (criticalByte v)
   sheetPart (choose f l t g i j) v = section (l .pack (v .0)) ++ either (λ x. sheet i x) (λ x. sheet j x) (v .1)
 
 -- ---- reading: 19 before a section's own rule
@@ -73,11 +73,11 @@ unfoldable pub times : {A : Type 0} → (List ℕ → ℕ → Res (Got A)) → �
 times f zero w p = good ([], w, p)
 times f (suc n) w p = bind (f w p) λ a. bind (times f n (a .1) (a .2)) λ xs. good (a .0 ∷ xs .0, xs .1, xs .2)
 
-unfoldable pub unbit : List ℕ → Option Bool
-unbit x = pick (same x (0 ∷ [])) (some false) (pick (same x (1 ∷ [])) (some true) none)
+unfoldable pub criticalIn : List ℕ → Option Bool
+criticalIn x = pick (same x (0 ∷ [])) (some false) (pick (same x (1 ∷ [])) (some true) none)
 
 unfoldable pub fillFlag : List ℕ → ℕ → Res (Got Bool)
-fillFlag w p = bind (readSection w p) λ c. bind (have (unbit (c .0)) bad-sheet p) λ v. good (v, c .1, next c)
+fillFlag w p = bind (readSection w p) λ c. bind (have (criticalIn (c .0)) bad-sheet p) λ v. good (v, c .1, next c)
 
 unfoldable pub fillOption : {A : Type 0} → (List ℕ → ℕ → Res (Got A)) → List ℕ → ℕ → Res (Got (Option A))
 fillOption f w p =

@@ -13,7 +13,7 @@ use lib.Dec.{T, leb}
 use Rattle.terms.specs.declared.Field.{Field}
 use Rattle.terms.specs.declared.Field.the-variants.{SignedPart, SealInformation}
 use Rattle.terms.specs.Numbers.{largest-record, unreal-time, done, run-end}
-use Rattle.terms.specs.Answer.{Res, good, fault, every, answered, told-two, told-none, refusal}
+use Rattle.terms.specs.Answer.{Res, good, fault, every, answered, bit, told-one, told-two, told-none, refusal}
 use Rattle.terms.specs.Laws.Answer.{good-inj, and-r}
 use Rattle.terms.specs.Digits.{isByte}
 use Rattle.contents.specs.Integer.{value, contentOf, wellFormed, Fits, eight, stretch}
@@ -32,11 +32,11 @@ use Rattle.records.specs.Laws.Record as Record
 use Rattle.records.specs.Laws.Handing as Handing
 use Rattle.runs.specs.Run.{runOf, whole, stopped, readRun, Reader, hereAt, taken, ended, faulty, oneMore, stepAfter, stepAnswer, refusal-after}
 use Rattle.runs.specs.Laws.Run as Runs
-use Rattle.verdicts.specs.Verdict.{firstFailing, First, takesNotice, Facts, factsOf, signatureSteps, signatureValid, sealSteps, sealValid, makerOut, judged, signatureVerdict, sealVerdict}
+use Rattle.verdicts.specs.Verdict.{Step, firstFailing, Facts, factsOf, Rulebook, signatureRules, sealRules, makerOut, judged, verdict, toldVerdict}
 use Rattle.verdicts.specs.Findings.{allReal}
+use Rattle.verdicts.specs.Laws.Verdict.{First, takesNotice}
 use Rattle.verdicts.specs.Laws.Verdict as Verdict
 use Rattle.verdicts.specs.declared.Findings.{Findings}
-use Rattle.verdicts.specs.declared.Verdict.the-variants.{Judged, Refused}
 
 -- The layouts that the promises are about: what may be missing in them cannot be mistaken for what follows, what is known is inside its
 -- rule, and no list is too long to count. The two that document 01 gives are such.
@@ -211,42 +211,37 @@ sheet-begins-with-the-seal's v = Record.sheet-begins v
 
 -- ---- demand 2: "The verdict is the first step of the standard that fails on the findings, or valid."
 
--- "after refusals of the record, then 18"
-pub verdict-of-a-refused : (w : List ℕ) (n p : ℕ) (f : Findings) (a b : List ℕ) → readRecord signature w ≡ fault n p → signatureVerdict w f a b ≡ Refused n p
-unfolding signatureVerdict
-verdict-of-a-refused w n p f a b e = rw e (Verdict.weigh-refused signatureSteps signatureValid signature n p f a b)
+-- the same of both verdicts, and of any table of steps
+module _ (b : Rulebook) (w : List ℕ) (f : Findings) (original signer : List ℕ) where
+  -- "after refusals of the record, then 18"
+  pub verdict-of-a-refused : (n p : ℕ) → readRecord (b .layout) w ≡ fault n p → toldVerdict (verdict b w f original signer) ≡ refusal n p
+  unfolding verdict
+  verdict-of-a-refused n p e = rw (e, Verdict.weigh-refused b n p f original signer)
 
-pub verdict-of-unreal-times : (w : List ℕ) (v : Values signature) (f : Findings) (a b : List ℕ) → readRecord signature w ≡ good v → T (not (allReal f)) → signatureVerdict w f a b ≡ Refused unreal-time 0
-unfolding signatureVerdict
-verdict-of-unreal-times w v f a b e h = rw e (Verdict.weigh-unreal signatureSteps signatureValid signature v f a b h)
+  module _ (v : Values (b .layout)) (e : readRecord (b .layout) w ≡ good v) where
+    abbrev facts : Facts
+    facts = factsOf (b .layout) v f original signer
 
--- else the answer is the first failing row of the table, and the notice goes with 0 and 26 to 34 exactly when the maker is out of force now and at signing
-pub verdict-is-the-first : (w : List ℕ) (v : Values signature) (f : Findings) (a b : List ℕ) → readRecord signature w ≡ good v → T (allReal f)
-    → (signatureVerdict w f a b ≡ judged (firstFailing signatureSteps signatureValid (factsOf signature v f a b)) (factsOf signature v f a b))
-    × First signatureSteps signatureValid (factsOf signature v f a b) (firstFailing signatureSteps signatureValid (factsOf signature v f a b))
-unfolding signatureVerdict
-verdict-is-the-first w v f a b e h = (rw e (Verdict.weigh-judged signatureSteps signatureValid signature v f a b h), Verdict.first-failing signatureSteps signatureValid (factsOf signature v f a b))
+    -- the first failing row of the table
+    abbrev answer : Step Facts
+    answer = firstFailing (b .steps) (b .passed) facts
 
-pub notice-goes-with : (x : Facts) → judged (firstFailing signatureSteps signatureValid x) x
-    ≡ Judged (firstFailing signatureSteps signatureValid x .number) (takesNotice (firstFailing signatureSteps signatureValid x .number) && makerOut x)
-unfolding judged
-notice-goes-with x = rw (Verdict.signature-notice x)
+    pub verdict-of-unreal-times : T (not (allReal f)) → toldVerdict (verdict b w f original signer) ≡ refusal unreal-time 0
+    unfolding verdict
+    verdict-of-unreal-times h = rw (e, Verdict.weigh-unreal b v f original signer h)
 
--- the seal verdict likewise, with no notice
-pub seal-verdict-of-a-refused : (w : List ℕ) (n p : ℕ) (f : Findings) (a b : List ℕ) → readRecord seal w ≡ fault n p → sealVerdict w f a b ≡ Refused n p
-unfolding sealVerdict
-seal-verdict-of-a-refused w n p f a b e = rw e (Verdict.weigh-refused sealSteps sealValid seal n p f a b)
+    -- else the number of the first failing row, and the notice where the row carries it and the maker is out of force now and at signing
+    pub verdict-is-the-first : T (allReal f)
+        → (toldVerdict (verdict b w f original signer) ≡ told-one (answer .number) (bit (answer .carries && makerOut facts))) × First (b .steps) (b .passed) facts answer
+    unfolding verdict judged
+    verdict-is-the-first h = (rw (e, Verdict.weigh-judged b v f original signer h), Verdict.first-failing (b .steps) (b .passed) facts)
 
-pub seal-verdict-of-unreal-times : (w : List ℕ) (v : Values seal) (f : Findings) (a b : List ℕ) → readRecord seal w ≡ good v → T (not (allReal f)) → sealVerdict w f a b ≡ Refused unreal-time 0
-unfolding sealVerdict
-seal-verdict-of-unreal-times w v f a b e h = rw e (Verdict.weigh-unreal sealSteps sealValid seal v f a b h)
+-- "A notice goes with 0 and 26 to 34"; the seal verdict "gives no notice"
+pub notice-goes-with : (x : Facts) → firstFailing (signatureRules .steps) (signatureRules .passed) x .carries ≡ takesNotice (firstFailing (signatureRules .steps) (signatureRules .passed) x .number)
+notice-goes-with x = Verdict.signature-notice x
 
-pub seal-verdict-is-the-first : (w : List ℕ) (v : Values seal) (f : Findings) (a b : List ℕ) → readRecord seal w ≡ good v → T (allReal f)
-    → (sealVerdict w f a b ≡ Judged (firstFailing sealSteps sealValid (factsOf seal v f a b) .number) false)
-    × First sealSteps sealValid (factsOf seal v f a b) (firstFailing sealSteps sealValid (factsOf seal v f a b))
-unfolding sealVerdict judged
-seal-verdict-is-the-first w v f a b e h =
-    (rw (e, Verdict.weigh-judged sealSteps sealValid seal v f a b h, Verdict.seal-notice (factsOf seal v f a b)), Verdict.first-failing sealSteps sealValid (factsOf seal v f a b))
+pub no-notice-with-a-seal : (x : Facts) → firstFailing (sealRules .steps) (sealRules .passed) x .carries ≡ false
+no-notice-with-a-seal x = Verdict.seal-notice x
 
 -- ---- integers: "One to eight two's-complement bytes become i64 and return", for every i64, both ends included
 

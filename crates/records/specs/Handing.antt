@@ -5,7 +5,7 @@ use mathlib.Core.Option.{Option, none, some}
 use mathlib.Core.List.{List, [], _∷_}
 use lib.ListN.{length}
 use Rattle.terms.specs.declared.Field.{Field}
-use Rattle.terms.specs.declared.Field.the-variants.{CertificateList, Created, End, Height, ListKind, ListedCertificate, ListedDigest, ListedName, MakerCertificate, OriginalDigest, PictureData, PictureType, PropertyText, SealAlgorithm, SealCustomCritical, SealCustomData, SealCustomId, SealCustomItem, SealCustomValue, SealId, SealInformation, SealName, SealSignedValue, SealType, SignatureAlgorithm, SignatureValue, SignedCustomCritical, SignedCustomData, SignedCustomId, SignedCustomItem, SignedCustomValue, SignedPart, SignerCertificate, SigningTime, Stamp, Start, Vendor, Width}
+use Rattle.terms.specs.declared.Field.the-variants.{CertificateList, Created, End, Height, ListKind, ListedCertificate, ListedDigest, ListedType, MakerCertificate, OriginalDigest, PictureData, PictureType, PropertyText, SealAlgorithm, SealCustomCritical, SealCustomData, SealCustomId, SealCustomItem, SealCustomValue, SealId, SealInformation, SealName, SealSignedValue, SealType, SignatureAlgorithm, SignatureValue, SignedCustomCritical, SignedCustomData, SignedCustomId, SignedCustomItem, SignedCustomValue, SignedPart, SignerCertificate, SigningTime, Stamp, Start, Vendor, Width}
 use Rattle.terms.specs.Names.{sameName}
 use Rattle.terms.specs.Numbers.{done, absent, largest-record}
 use Rattle.terms.specs.Answer.{Res, good, fault, pick, same, bit, Told, gives, told-one, told-two, told-none, refusal, answered}
@@ -16,8 +16,8 @@ use Rattle.layouts.specs.Fields.{Entry, fields, isField, first, isThere, bytesI
 use Rattle.records.specs.Record.{sealInformation, seal, signedPart, signature}
 use Rattle.records.specs.declared.Part.{Part}
 use Rattle.records.specs.declared.Part.the-variants.{There, Absent as NoPart, Refused as PartRefused}
-use Rattle.records.specs.declared.Whole.{Whole}
-use Rattle.records.specs.declared.Whole.the-variants.{Value, Absent as NoWhole, Refused as WholeRefused}
+use Rattle.records.specs.declared.Number.{Number}
+use Rattle.records.specs.declared.Number.the-variants.{Value, Absent as NoNumber, Refused as NumberRefused}
 use Rattle.records.specs.declared.Critical.{Critical}
 use Rattle.records.specs.declared.Critical.the-variants.{Is, Absent as NoCritical, Refused as CriticalRefused}
 use Rattle.records.specs.declared.Items.{Items}
@@ -75,7 +75,7 @@ toldEntry (some x) = told-two done (x .place) (length (x .bytes))
 -- "the bytes its section has, or the signed bytes": the fields that are handed out as parts. Integers and critical come as values.
 abbrev pub partNames : List Field
 partNames =
-    SealInformation ∷ Vendor ∷ SealId ∷ SealName ∷ ListedCertificate ∷ ListedName ∷ ListedDigest ∷ Created ∷ Start
+    SealInformation ∷ Vendor ∷ SealId ∷ SealName ∷ ListedCertificate ∷ ListedType ∷ ListedDigest ∷ Created ∷ Start
     ∷ End ∷ PictureType ∷ PictureData ∷ SealCustomId ∷ SealCustomValue ∷ MakerCertificate ∷ SealAlgorithm ∷ SealSignedValue ∷ SignedPart
     ∷ SigningTime ∷ OriginalDigest ∷ PropertyText ∷ SignedCustomId ∷ SignedCustomValue ∷ SignerCertificate ∷ SignatureAlgorithm ∷ SignatureValue ∷ Stamp ∷ []
 
@@ -153,10 +153,10 @@ toldPart (There a n) = told-two done a n
 toldPart NoPart = told-none absent
 toldPart (PartRefused n p) = refusal n p
 
-abbrev pub toldWhole : Whole → Told
-toldWhole (Value z) = gives done (z ∷ [])
-toldWhole NoWhole = told-none absent
-toldWhole (WholeRefused n p) = refusal n p
+abbrev pub toldNumber : Number → Told
+toldNumber (Value z) = gives done (z ∷ [])
+toldNumber NoNumber = told-none absent
+toldNumber (NumberRefused n p) = refusal n p
 
 abbrev pub toldIs : Critical → Told
 toldIs (Is t) = told-one done (bit t)

@@ -109,10 +109,10 @@ unfoldable pub stepAnswer : (r : Members) → List ℕ → Reader → Told
 stepAnswer r s x = toldHere (hereAt r s (x .position)) x
 
 -- "empty, at the run's start" (03, 37): start and length of what a step hands out
-abbrev pub handedOut : Stepped → ℕ × ℕ
-handedOut (Record a n) = (a, n)
-handedOut End = (0, 0)
-handedOut (StepRefused n p k) = (0, 0)
+abbrev pub handedRecord : Stepped → ℕ × ℕ
+handedRecord (Record a n) = (a, n)
+handedRecord End = (0, 0)
+handedRecord (StepRefused n p k) = (0, 0)
 
 -- ---- what the code's answers say in the paper's terms
 

@@ -275,7 +275,7 @@ fn digest() -> [Member; MEMBERS]
     ensures { λ r. ⌜ inner (layoutOf Shape.Digest) ≡ membersOf r ⌝ }
 {
     [
-        Member::Leaf(Field::ListedName, Form::AnyPrintable),
+        Member::Leaf(Field::ListedType, Form::AnyPrintable),
         Member::Leaf(Field::ListedDigest, Form::Octets),
         Member::Blank,
         Member::Blank,

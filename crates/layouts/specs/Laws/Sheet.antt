@@ -19,7 +19,7 @@ use Rattle.contents.specs.Content.{fine, Leaf, judge}
 use Rattle.contents.specs.Laws.Leaves.{by-judge}
 use Rattle.layouts.specs.Layout.{Item, leaf, node, list, wrap, Members, end, _▸_, Member, known, one, maybe, flag, choose, All, InOption, InEither, Ok, Oks, OkPart, each, option, either, critical, encode, encodes, encodePart}
 use Rattle.layouts.specs.Reading.{next, readEither}
-use Rattle.layouts.specs.Sheet.{count-bytes, count, section, bit, sheetOption, sheetList, sheet, sheets, sheetPart, readCount, readSection, fillLeaf, times, unbit, fillFlag, fillOption, fillList, fill, fills, fillPart}
+use Rattle.layouts.specs.Sheet.{count-bytes, count, section, criticalByte, sheetOption, sheetList, sheet, sheets, sheetPart, readCount, readSection, fillLeaf, times, criticalIn, fillFlag, fillOption, fillList, fill, fills, fillPart}
 use Rattle.layouts.specs.Laws.Reading.{tells, spare, clear, clears, clearPart, Written, Backward, glue, either-back}
 
 -- ---- counts and sections
@@ -79,32 +79,32 @@ leaf-unfilled l w p x e =
 
 -- ---- the flag
 
-unbit-bit : (v : Bool) → unbit (bit v) ≡ some v
-unfolding unbit bit pick same
-unbit-bit true = refl
-unbit-bit false = refl
+criticalIn-byte : (v : Bool) → criticalIn (criticalByte v) ≡ some v
+unfolding criticalIn criticalByte pick same
+criticalIn-byte true = refl
+criticalIn-byte false = refl
 
-bit-unbit : (x : List ℕ) (v : Bool) → unbit x ≡ some v → bit v ≡ x
-unfolding unbit bit
-bit-unbit x v e =
+byte-criticalIn : (x : List ℕ) (v : Bool) → criticalIn x ≡ some v → criticalByte v ≡ x
+unfolding criticalIn criticalByte
+byte-criticalIn x v e =
     test (same x (0 ∷ []))
     (λ h. let q : some false ≡ some v = sym (pick-yes (same x (0 ∷ [])) _ _ h) ∙ e in let u : false ≡ v = cc in rw (← u) (sym (same-eq x (0 ∷ []) h)))
     (λ h. test (same x (1 ∷ []))
     (λ g. let q : some true ≡ some v = sym (pick-yes (same x (1 ∷ [])) _ _ g) ∙ sym (pick-no (same x (0 ∷ [])) _ _ h) ∙ e in let u : true ≡ v = cc in rw (← u) (sym (same-eq x (1 ∷ []) g)))
     (λ g. let q : none ≡ some v = sym (pick-no (same x (1 ∷ [])) _ _ g) ∙ sym (pick-no (same x (0 ∷ [])) _ _ h) ∙ e in let z : _≡_ {A = ℕ} 0 1 = cc in let y : ⊥ = omega arith in absurd y))
 
-flag-filled : Filled fillFlag (λ v. section (bit v)) (λ v. Unit {0})
+flag-filled : Filled fillFlag (λ v. section (criticalByte v)) (λ v. Unit {0})
 unfolding fillFlag bind have
 flag-filled v ok w p h =
-    let m = length-section (bit v) in
-    rw (section-there (bit v) w p (omega arith), unbit-bit v) (ap (λ (m : ℕ). good (v, w, m)) (omega arith))
+    let m = length-section (criticalByte v) in
+    rw (section-there (criticalByte v) w p (omega arith), criticalIn-byte v) (ap (λ (m : ℕ). good (v, w, m)) (omega arith))
 
-flag-unfilled : Backward fillFlag (λ v. section (bit v)) (λ v. Unit {0})
+flag-unfilled : Backward fillFlag (λ v. section (criticalByte v)) (λ v. Unit {0})
 unfolding fillFlag
 flag-unfilled w p x e =
     by-bind _ _ _ e λ c e₁ e₂. by-bind _ _ _ e₂ λ v e₃ e₄. by-have _ _ _ _ e₃ λ u.
     let q = section-back w p c e₁ in
-    rw (← good-inj e₄, bit-unbit (c .0) v u) (q .0, tt, q .1)
+    rw (← good-inj e₄, byte-criticalIn (c .0) v u) (q .0, tt, q .1)
 
 -- ---- options and lists
 
@@ -289,8 +289,8 @@ unfolding either
 either-short f g d e s k (inl a) h = s a h
 either-short f g d e s k (inr b) h = k b h
 
-flag-short : Short 5 (λ v. section (bit v)) critical
-unfolding bit
+flag-short : Short 5 (λ v. section (criticalByte v)) critical
+unfolding criticalByte
 flag-short true h = omega (arith, length-section (1 ∷ []))
 flag-short false h = omega (arith, length-section (0 ∷ []))
 

@@ -15,12 +15,12 @@ use Rattle.contents.specs.Content.{fine, wrong, tag, placeOf}
 use Rattle.contents.specs.Scan.{checkedAt}
 use Rattle.contents.specs.declared.Checked.the-variants.{Fine, Wrong}
 use Rattle.contents.specs.Time.{year-digits, monthLength, possible, isDigit, partFrom, zulu, Moment, moment, timeFrom, timeCheck, timeRule, momentIn, momentOf}
-use Rattle.times.specs.declared.Reading.{Reading}
-use Rattle.times.specs.declared.Reading.the-variants.{Number, Nothing}
+use Rattle.times.specs.declared.Parsed.{Parsed}
+use Rattle.times.specs.declared.Parsed.the-variants.{Number, Nothing}
 use Rattle.times.specs.Laws.Parts.{heard, after, no-number, partAt}
 
 -- what code answers of a whole time: its number, or none
-unfoldable pub told : Res (Got Moment) → Reading
+unfoldable pub told : Res (Got Moment) → Parsed
 told (good (moment n, w, b)) = Number n
 told (fault n p) = Nothing
 
@@ -29,21 +29,21 @@ unfoldable pub closing : List ℕ → Bool
 closing [] = false
 closing (z ∷ w) = eqb z 0x5A
 
-unfoldable pub dateIn : List ℕ → Reading
+unfoldable pub dateIn : List ℕ → Parsed
 dateIn c =
     after (partAt 4 0 9999 0 c) λ y.
     after (partAt 2 1 12 4 c) λ m.
     after (partAt 2 1 (monthLength y m) 6 c) λ d.
     Number ((y * 100 + m) * 100 + d)
 
-unfoldable pub clockIn : List ℕ → Reading
+unfoldable pub clockIn : List ℕ → Parsed
 clockIn c =
     after (partAt 2 0 23 8 c) λ h.
     after (partAt 2 0 59 10 c) λ i.
     after (partAt 2 0 59 12 c) λ s.
     pick (closing (drop 14 c)) (Number ((h * 100 + i) * 100 + s)) Nothing
 
-unfoldable pub timeIn : List ℕ → Reading
+unfoldable pub timeIn : List ℕ → Parsed
 timeIn c =
     after (dateIn c) λ d.
     after (clockIn c) λ t.
@@ -73,13 +73,13 @@ by-part k low high i c K P f g = go (partFrom k low high 0 (drop i c) i) refl
         let (p, q) = rest k low high 0 i (drop i c) (n, w, b) e in
         rw (p, q, drop-drop k i c) (g n (ap heard e))
 
-step : (k low high i : ℕ) (c : List ℕ) (K : Got ℕ → Res (Got Moment)) (f g : ℕ → Reading)
+step : (k low high i : ℕ) (c : List ℕ) (K : Got ℕ → Res (Got Moment)) (f g : ℕ → Parsed)
     → ((n : ℕ) → told (K (n, drop (i + k) c, i + k)) ≡ after (f n) g)
     → told (bind (partFrom k low high 0 (drop i c) i) K) ≡ after (after (partAt k low high i c) f) g
 unfolding after told
 step k low high i c K f g h = by-part k low high i c K (λ r. told r ≡ after (after (partAt k low high i c) f) g) (λ n p e. rw e) (λ n e. rw e (h n))
 
-last : (T : ℕ) (c : List ℕ) (g : ℕ → Reading) (v : ℕ) → Number v ≡ g T → told (bind (zulu (drop 14 c) 14) λ z. good (moment v, z .1, z .2)) ≡ after (pick (closing (drop 14 c)) (Number T) Nothing) g
+last : (T : ℕ) (c : List ℕ) (g : ℕ → Parsed) (v : ℕ) → Number v ≡ g T → told (bind (zulu (drop 14 c) 14) λ z. good (moment v, z .1, z .2)) ≡ after (pick (closing (drop 14 c)) (Number T) Nothing) g
 unfolding bind after told zulu closing pick need
 last T c g v h = go (drop 14 c)
   where
@@ -169,8 +169,8 @@ module _ (w : List ℕ) where
   unfolding closing
   closing-there h = rw (drop-cons w 14 0 h)
 
-module _ (h : Reading) (f : ℕ → Reading) {r : Reading} (e : r ≡ h) where
-  pub after-number : (x : Reading) {n : ℕ} → r ≡ Number n → x ≡ f n → x ≡ after h f
+module _ (h : Parsed) (f : ℕ → Parsed) {r : Parsed} (e : r ≡ h) where
+  pub after-number : (x : Parsed) {n : ℕ} → r ≡ Number n → x ≡ f n → x ≡ after h f
   unfolding after
   after-number x q g = rw (← e, q) g
 
@@ -178,8 +178,8 @@ module _ (h : Reading) (f : ℕ → Reading) {r : Reading} (e : r ≡ h) where
   unfolding after
   after-nothing q = rw (← e, q)
 
-module _ (x y : Reading) (t : Bool) {r : Bool} (e : r ≡ t) where
-  pub closed : (z : Reading) → not r ≡ false → z ≡ x → z ≡ pick t x y
+module _ (x y : Parsed) (t : Bool) {r : Bool} (e : r ≡ t) where
+  pub closed : (z : Parsed) → not r ≡ false → z ≡ x → z ≡ pick t x y
   unfolding pick
   closed z h q = rw (sym e ∙ not-false r h) q
 
@@ -188,7 +188,7 @@ module _ (x y : Reading) (t : Bool) {r : Bool} (e : r ≡ t) where
   left-open h = rw (sym e ∙ not-true r h)
 
 -- the month's length by another name
-pub by-length : {r : Reading} (k low h high i : ℕ) (c : List ℕ) → r ≡ partAt k low h i c → h ≡ high → r ≡ partAt k low high i c
+pub by-length : {r : Parsed} (k low h high i : ℕ) (c : List ℕ) → r ≡ partAt k low h i c → h ≡ high → r ≡ partAt k low high i c
 by-length k low h high i c e q = e ∙ ap (λ (m : ℕ). partAt k low m i c) q
 
 pub number-is : {m n : ℕ} → m ≡ n → Number m ≡ Number n
@@ -196,7 +196,7 @@ number-is e = ap Number e
 
 pub ruleset steps = (after-number, after-nothing, closed, left-open, by-length, number-is)
 
-pub as-read : (x : Reading) (c : List ℕ) → x ≡ timeIn c → x ≡ told (timeFrom year-digits c 0)
+pub as-read : (x : Parsed) (c : List ℕ) → x ≡ timeIn c → x ≡ told (timeFrom year-digits c 0)
 as-read x c e = e ∙ time-in c
 
 -- ---- the content of a record
@@ -206,7 +206,7 @@ module _ (s w : List ℕ) (a z : ℕ) (cut : w ≡ slice a z s) where
   unfolding checkedAt placeOf
   too-long p h = rw (← cut, rule-long w h)
 
-  module _ {r : Reading} (e : r ≡ told (timeFrom year-digits w 0)) where
+  module _ {r : Parsed} (e : r ≡ told (timeFrom year-digits w 0)) where
     pub no-time : (p : ℕ) → r ≡ Nothing → Wrong 10 p ≡ checkedAt timeRule s p a z
     unfolding checkedAt placeOf
     no-time p q = rw (← cut, rule-none w (sym e ∙ q))
