@@ -85,7 +85,7 @@ unfoldable pub isField : Field → ℕ → Entry → Bool
 isField f k x = sameName f (x .name) && eqb k (x .index)
 
 -- the first that passes
-unfoldable pub first : (Entry → Bool) → List Entry → Option Entry
+unfoldable pub first : {A : Type 0} → (A → Bool) → List A → Option A
 first p [] = none
 first p (x ∷ xs) = pick (p x) (some x) (first p xs)
 

@@ -1,6 +1,7 @@
 -- The two verdicts: tables of numbered steps, and the first that holds (000, 6.3 and 7.3). Assumes nothing.
 use Prim.Native.Nat.{ℕ}
 use mathlib.Core.Bool.{Bool, true, false, not, _&&_}
+use mathlib.Core.Option.{Option, none, some}
 use mathlib.Core.List.{List, [], _∷_}
 use Rattle.terms.specs.declared.Field.{Field}
 use Rattle.terms.specs.declared.Field.the-variants.{ListKind, Start, End, SigningTime, OriginalDigest, SignerCertificate, Stamp}
@@ -28,10 +29,13 @@ pub record Step (A : Type 0) : Type 0 where
 abbrev pub step : {A : Type 0} → ℕ → Bool → (A → Bool) → Step A
 step n c f = record { number = n; fails = f; carries = c }
 
+unfoldable pub orElse : {A : Type 0} → Option A → A → A
+orElse none a = a
+orElse (some x) a = x
+
 -- "The first that holds": the row; `passed` is the row that says that none does
 unfoldable pub firstFailing : {A : Type 0} → List (Step A) → Step A → A → Step A
-firstFailing [] passed x = passed
-firstFailing (s ∷ ss) passed x = pick (s .fails x) s (firstFailing ss passed x)
+firstFailing ss passed x = orElse (first (λ s. s .fails x) ss) passed
 
 -- ---- what the steps look at
 
