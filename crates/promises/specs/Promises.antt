@@ -14,7 +14,7 @@ use borrow.Author.Tests.{lt-leb}
 use Rattle.terms.specs.declared.Field.{Field}
 use Rattle.terms.specs.declared.Field.the-variants.{SignedPart, SealInformation}
 use Rattle.terms.specs.Numbers.{largest-record, too-large, no-room, unreal-time, done, run-end}
-use Rattle.terms.specs.Answer.{Res, good, fault, Got, bind, need, every, answered, bit, Told, told-one, told-two, told-none, refusal}
+use Rattle.terms.specs.Answer.{Res, good, fault, Got, got, bind, need, every, answered, bit, Told, told-one, told-two, told-none, refusal}
 use Rattle.terms.specs.Laws.Answer.{good-inj, and-r, bind-eq, need-eq}
 use Rattle.terms.specs.Digits.{isByte}
 use Rattle.contents.specs.Integer.{value, contentOf, wellFormed, Fits, eight, stretch}
@@ -233,16 +233,16 @@ module _ (r : Members) (k : Clear r) where
   reader-reads s p h = Runs.here-inside r s p h
 
   -- it takes a right record where one stands, and what it takes is one
-  pub reader-takes-a-record : (s p : List ℕ) (v : Values r) (w : List ℕ) → Right r v → s ≡ p ++ (recordOf r v ++ w) → hereAt r s (length p) ≡ taken (v, w, length p + length (recordOf r v))
+  pub reader-takes-a-record : (s p : List ℕ) (v : Values r) (w : List ℕ) → Right r v → s ≡ p ++ (recordOf r v ++ w) → hereAt r s (length p) ≡ taken (got v w (length p + length (recordOf r v)))
   reader-takes-a-record s p v w ok e = Runs.here-there r inner s p v w ok e
 
-  pub reader-takes-only-records : (s : List ℕ) (p : ℕ) (a : Got (Values r)) → hereAt r s p ≡ taken a → (drop p s ≡ recordOf r (a .0) ++ a .1) × Right r (a .0) × (a .2 ≡ p + length (recordOf r (a .0)))
+  pub reader-takes-only-records : (s : List ℕ) (p : ℕ) (a : Got (Values r)) → hereAt r s p ≡ taken a → (drop p s ≡ recordOf r (a .value) ++ a .rest) × Right r (a .value) × (a .after ≡ p + length (recordOf r (a .value)))
   reader-takes-only-records s p a e = Runs.here-back r s p a e
 
   -- it hands a record out where it stands, and goes on behind it with one more handed out; at the end and at a fault it stays
   pub reader-goes-on : (s p : List ℕ) (v : Values r) (w : List ℕ) (x : Reader) → Right r v → s ≡ p ++ (recordOf r v ++ w) → x .position ≡ length p
       → (stepAnswer r s x ≡ told-two done (x .position) (length (recordOf r v))) × (stepAfter r s x ≡ record { position = x .position + length (recordOf r v); handed = oneMore (x .handed) })
-  reader-goes-on s p v w x ok e h = Runs.step-takes r s x (v, w, x .position + length (recordOf r v)) (length (recordOf r v)) (rw h (reader-takes-a-record s p v w ok e)) refl
+  reader-goes-on s p v w x ok e h = Runs.step-takes r s x (got v w (x .position + length (recordOf r v))) (length (recordOf r v)) (rw h (reader-takes-a-record s p v w ok e)) refl
 
   pub reader-stays-at-the-end : (s : List ℕ) (x : Reader) → length s ≤ x .position → (stepAnswer r s x ≡ told-none run-end) × (stepAfter r s x ≡ x)
   reader-stays-at-the-end s x h = Runs.step-ends r s x (reader-ends s (x .position) h)

@@ -114,9 +114,9 @@ head-inside t s p e a z h = go (head t (slice p e s) p) refl h
         let b = head-back t (slice p e s) p c o in
         let n : length (slice p e s) ≡ length (take e s) - p = length-drop p (take e s) in
         let m = take-short e s in
-        let k : length (slice p e s) ≡ before (length (c .0)) + length (c .0) + length (c .1) =
-        ap length (b .0) ∙ length-append (tlv t (c .0)) (c .1) ∙ ap (λ (x : ℕ). x + length (c .1)) (length-tlv t (c .0)) in
-        let q : c .2 ≡ a = cc in
+        let k : length (slice p e s) ≡ before (length (c .content)) + length (c .content) + length (c .rest) =
+        ap length (b .0) ∙ length-append (tlv t (c .content)) (c .rest) ∙ ap (λ (x : ℕ). x + length (c .rest)) (length-tlv t (c .content)) in
+        let q : c .start ≡ a = cc in
         let r = b .1 in
         omega arith
     go (fault n q) o g = let y : _≡_ {A = ℕ} 0 1 = cc in let f : ⊥ = omega arith in absurd f

@@ -8,7 +8,7 @@ use lib.Seq.{drop-at, take-at}
 use lib.Dec.{T, leb, le→leb}
 use borrow.Author.Tests.{lt-leb}
 use Rattle.terms.specs.Numbers.{done, no-room}
-use Rattle.terms.specs.Answer.{Res, good, fault, Got, bind, need, Told, told-one, refusal, answered}
+use Rattle.terms.specs.Answer.{Res, good, fault, Got, got, bind, need, Told, told-one, refusal, answered}
 use Rattle.terms.specs.Laws.Answer.{clash, good-inj, and-r, by-bind, need-eq}
 use Rattle.heads.specs.Head.{Cut, tlv, before, unspelled, outermost}
 use Rattle.heads.specs.Laws.Head.{length-tlv, head-back, outermost-tlv, outermost-back}
@@ -30,23 +30,23 @@ module _ (most : ℕ) (r : Members) where
   -- ---- a record at the front of a window
 
   pub recordAt-back : (w : List ℕ) (b : ℕ) (x : Got (Values r)) → recordAt most r w b ≡ good x
-      → (w ≡ recordOf r (x .0) ++ x .1) × Oks r (x .0) × (x .2 ≡ b + length (recordOf r (x .0))) × (length (recordOf r (x .0)) ≤ most)
+      → (w ≡ recordOf r (x .value) ++ x .rest) × Oks r (x .value) × (x .after ≡ b + length (recordOf r (x .value))) × (length (recordOf r (x .value)) ≤ most)
   unfolding recordAt
   recordAt-back w b x e =
       by-bind _ _ _ e λ c e₁ e₂. by-bind _ _ _ e₂ λ v e₃ e₄.
       let h = outermost-back most sequence w b c e₁ in
       let k = head-back sequence w b c (h .0) in
-      let s = backwards r (c .0) (c .2) v e₃ in
-      let n = length-tlv sequence (c .0) in
+      let s = backwards r (c .content) (c .start) v e₃ in
+      let n = length-tlv sequence (c .content) in
       rw (← good-inj e₄, ← s .0) (k .0, s .1, omega arith, h .1)
 
   pub recordAt-there : T (clears r) → most < unspelled → (v : Values r) → Oks r v → length (recordOf r v) ≤ most → (w : List ℕ) (b : ℕ)
-      → recordAt most r (recordOf r v ++ w) b ≡ good (v, w, b + length (recordOf r v))
+      → recordAt most r (recordOf r v ++ w) b ≡ good (got v w (b + length (recordOf r v)))
   unfolding recordAt bind
   recordAt-there k m v ok h w b =
       let n = length-tlv sequence (encodes r v) in
       rw (outermost-tlv most sequence (encodes r v) w b (omega arith) h, forwards r k v ok (b + before (length (encodes r v))) (omega arith))
-      (ap (λ (m : ℕ). good (v, w, m)) (omega arith))
+      (ap (λ (m : ℕ). good (got v w m)) (omega arith))
 
   -- ---- a record that is the whole input
 
@@ -56,8 +56,8 @@ module _ (most : ℕ) (r : Members) where
   accept-back w v e =
       by-bind _ _ _ e λ a e₁ e₂. by-bind _ _ _ e₂ λ u e₃ e₄.
       let b = recordAt-back w 0 a e₁ in
-      let f = finish-back (a .1) (a .2) u e₃ in
-      let q : w ≡ recordOf r (a .0) = b .0 ∙ ap (λ (z : List ℕ). recordOf r (a .0) ++ z) f ∙ append-nil (recordOf r (a .0)) in
+      let f = finish-back (a .rest) (a .after) u e₃ in
+      let q : w ≡ recordOf r (a .value) = b .0 ∙ ap (λ (z : List ℕ). recordOf r (a .value) ++ z) f ∙ append-nil (recordOf r (a .value)) in
       rw (← good-inj e₄) (q, b .1, rw q (b .3))
 
   -- the bytes of every such value within the bound are accepted
@@ -70,20 +70,20 @@ module _ (most : ℕ) (r : Members) where
   unfolding accept recordAt bind
   accept-more w z m h = rw (outermost-more most sequence w z 0 m h) (go (outermost most sequence w 0) refl)
     where
-      left : (c : Cut) → outermost most sequence w 0 ≡ good c → (p : ℕ) → finish (c .1 ++ z) p ≡ finish (c .1) p
+      left : (c : Cut) → outermost most sequence w 0 ≡ good c → (p : ℕ) → finish (c .rest ++ z) p ≡ finish (c .rest) p
       left c e p =
           let o = outermost-back most sequence w 0 c e in
-          let l : length w ≡ length (tlv sequence (c .0)) + length (c .1) = ap length (head-back sequence w 0 c (o .0) .0) ∙ length-append (tlv sequence (c .0)) (c .1) in
+          let l : length w ≡ length (tlv sequence (c .content)) + length (c .rest) = ap length (head-back sequence w 0 c (o .0) .0) ∙ length-append (tlv sequence (c .content)) (c .rest) in
           let n = o .1 in
-          some-left (c .1) z p (omega arith)
+          some-left (c .rest) z p (omega arith)
 
       go : (x : Res Cut) → outermost most sequence w 0 ≡ x
-          → (bind {A = Got (Values r)} (bind (moreCut z x) λ c. bind (reads r (c .0) (c .2)) λ v. good (v, c .1, next c)) λ a. bind (finish (a .1) (a .2)) λ u. good (a .0))
-          ≡ (bind {A = Got (Values r)} (bind x λ c. bind (reads r (c .0) (c .2)) λ v. good (v, c .1, next c)) λ a. bind (finish (a .1) (a .2)) λ u. good (a .0))
-      go (good c) e = read (reads r (c .0) (c .2))
+          → (bind {A = Got (Values r)} (bind (moreCut z x) λ c. bind (reads r (c .content) (c .start)) λ v. good (got v (c .rest) (next c))) λ a. bind (finish (a .rest) (a .after)) λ u. good (a .value))
+          ≡ (bind {A = Got (Values r)} (bind x λ c. bind (reads r (c .content) (c .start)) λ v. good (got v (c .rest) (next c))) λ a. bind (finish (a .rest) (a .after)) λ u. good (a .value))
+      go (good c) e = read (reads r (c .content) (c .start))
         where
-          read : (y : Res (Values r)) → (bind {A = Got (Values r)} (bind y λ v. good (v, c .1 ++ z, next c)) λ a. bind (finish (a .1) (a .2)) λ u. good (a .0))
-              ≡ (bind {A = Got (Values r)} (bind y λ v. good (v, c .1, next c)) λ a. bind (finish (a .1) (a .2)) λ u. good (a .0))
+          read : (y : Res (Values r)) → (bind {A = Got (Values r)} (bind y λ v. good (got v (c .rest ++ z) (next c))) λ a. bind (finish (a .rest) (a .after)) λ u. good (a .value))
+              ≡ (bind {A = Got (Values r)} (bind y λ v. good (got v (c .rest) (next c))) λ a. bind (finish (a .rest) (a .after)) λ u. good (a .value))
           read (good v) = rw (left c e (next c)) refl
           read (fault n p) = refl
       go (fault n p) e = refl
@@ -100,8 +100,8 @@ module _ (most : ℕ) (r : Members) where
   sheet-back x v e =
       by-bind _ _ _ e λ a e₁ e₂. by-bind _ _ _ e₂ λ u e₃ e₄.
       let b = unfilleds r x 0 a e₁ in
-      let f = finishSheet-back (a .1) (a .2) u e₃ in
-      rw (← good-inj e₄) (b .0 ∙ ap (λ (z : List ℕ). sheets r (a .0) ++ z) f ∙ append-nil (sheets r (a .0)), b .1)
+      let f = finishSheet-back (a .rest) (a .after) u e₃ in
+      rw (← good-inj e₄) (b .0 ∙ ap (λ (z : List ℕ). sheets r (a .value) ++ z) f ∙ append-nil (sheets r (a .value)), b .1)
 
   pub sheet-there : T (clears r) → (v : Values r) → Oks r v → length (sheets r v) < uncounted → acceptSheet r (sheets r v) ≡ good v
   unfolding acceptSheet bind finishSheet

@@ -7,7 +7,7 @@ use lib.ListN.{length, drop, replicate, length-append}
 use lib.Seq.{drop-at, drop-cons}
 use lib.Dec.{T, ltb, lt→ltb}
 use Rattle.terms.specs.Numbers.{largest-record, done, run-end}
-use Rattle.terms.specs.Answer.{Res, good, fault, Got, Told, told-two, told-none}
+use Rattle.terms.specs.Answer.{Res, good, fault, Got, got, Told, told-two, told-none}
 use Rattle.terms.specs.Laws.Answer.{pick-yes}
 use Rattle.heads.specs.Head.{tlv, octets}
 use Rattle.heads.specs.Laws.Head.{length-tlv}
@@ -46,7 +46,7 @@ module _ (r : Members) where
       cons-read k (recordOf r v ++ runOf r vs) b (record-cons v .0) (record-cons v .1 ++ runOf r vs) (ap (λ (y : List ℕ). y ++ runOf r vs) (record-cons v .2))
       ∙ rw (recordAt-there largest-record r c (omega arith) v (ok .0 .0) (ok .0 .1) (runOf r vs) b, runFrom-there c k vs (ok .1) (omega arith) (b + length (recordOf r v)))
     where
-      cons-read : (k : ℕ) (w : List ℕ) (b x : ℕ) (y : List ℕ) → w ≡ x ∷ y → runFrom (suc k) r w b ≡ (onward (recordAt largest-record r w b) λ a. andThen (a .0) (runFrom k r (a .1) (a .2)))
+      cons-read : (k : ℕ) (w : List ℕ) (b x : ℕ) (y : List ℕ) → w ≡ x ∷ y → runFrom (suc k) r w b ≡ (onward (recordAt largest-record r w b) λ a. andThen (a .value) (runFrom k r (a .rest) (a .after)))
       cons-read k w b x y e = rw e
 
   -- a run of encoded records reads back exactly its list
@@ -79,11 +79,11 @@ module _ (r : Members) where
   runFrom-back (suc k) (x ∷ w) b vs h e =
       by-onward _ _ vs e λ a e₁ e₂.
       let u = recordAt-back largest-record r (x ∷ w) b a e₁ in
-      let t = whole-cons (a .0) (runFrom k r (a .1) (a .2)) vs e₂ in
-      let l : suc (length w) ≡ length (recordOf r (a .0)) + length (a .1) = ap length (u .0) ∙ length-append (recordOf r (a .0)) (a .1) in
-      let s = record-some (a .0) in
-      let m = runFrom-back k (a .1) (a .2) (t .0) (omega arith) (t .1) in
-      rw (← t .2) (u .0 ∙ ap (λ (y : List ℕ). recordOf r (a .0) ++ y) (m .0), ((u .1, u .3), m .1))
+      let t = whole-cons (a .value) (runFrom k r (a .rest) (a .after)) vs e₂ in
+      let l : suc (length w) ≡ length (recordOf r (a .value)) + length (a .rest) = ap length (u .0) ∙ length-append (recordOf r (a .value)) (a .rest) in
+      let s = record-some (a .value) in
+      let m = runFrom-back k (a .rest) (a .after) (t .0) (omega arith) (t .1) in
+      rw (← t .2) (u .0 ∙ ap (λ (y : List ℕ). recordOf r (a .value) ++ y) (m .0), ((u .1, u .3), m .1))
 
   -- every accepted run is the bytes of its list
   pub run-back : (w : List ℕ) (vs : List (Values r)) → readRun r w ≡ whole vs → (w ≡ runOf r vs) × All (Accepted r) vs
@@ -105,20 +105,20 @@ module _ (r : Members) where
   runFrom-stops zero w b vs n p h e = let z : _≡_ {A = ℕ} 0 1 = cc in let y : ⊥ = omega arith in absurd y
   runFrom-stops (suc k) [] b vs n p h e = let z : _≡_ {A = ℕ} 0 1 = cc in let y : ⊥ = omega arith in absurd y
   runFrom-stops (suc k) (x ∷ w) b vs n p h e =
-      go (recordAt largest-record r (x ∷ w) b) refl e λ a us l g. runFrom-stops k (a .1) (a .2) us n p l g
+      go (recordAt largest-record r (x ∷ w) b) refl e λ a us l g. runFrom-stops k (a .rest) (a .after) us n p l g
     where
-      go : (y : Res (Got (Values r))) → recordAt largest-record r (x ∷ w) b ≡ y → (onward y λ a. andThen (a .0) (runFrom k r (a .1) (a .2))) ≡ stopped vs n p
-          → ((a : Got (Values r)) (us : List (Values r)) → length (a .1) ≤ k → runFrom k r (a .1) (a .2) ≡ stopped us n p → Stops (a .1) (a .2) us n p) → Stops (x ∷ w) b vs n p
+      go : (y : Res (Got (Values r))) → recordAt largest-record r (x ∷ w) b ≡ y → (onward y λ a. andThen (a .value) (runFrom k r (a .rest) (a .after))) ≡ stopped vs n p
+          → ((a : Got (Values r)) (us : List (Values r)) → length (a .rest) ≤ k → runFrom k r (a .rest) (a .after) ≡ stopped us n p → Stops (a .rest) (a .after) us n p) → Stops (x ∷ w) b vs n p
       go (good a) f g ih =
           let u = recordAt-back largest-record r (x ∷ w) b a f in
-          let t = stopped-cons (a .0) (runFrom k r (a .1) (a .2)) vs n p g in
-          let l : suc (length w) ≡ length (recordOf r (a .0)) + length (a .1) = ap length (u .0) ∙ length-append (recordOf r (a .0)) (a .1) in
-          let s = record-some (a .0) in
+          let t = stopped-cons (a .value) (runFrom k r (a .rest) (a .after)) vs n p g in
+          let l : suc (length w) ≡ length (recordOf r (a .value)) + length (a .rest) = ap length (u .0) ∙ length-append (recordOf r (a .value)) (a .rest) in
+          let s = record-some (a .value) in
           let i = ih a (t .0) (omega arith) (t .1) in
-          let m : a .2 + length (runOf r (t .0)) ≡ b + length (runOf r (a .0 ∷ t .0)) = omega (arith, u .2, length-append (recordOf r (a .0)) (runOf r (t .0))) in
+          let m : a .after + length (runOf r (t .0)) ≡ b + length (runOf r (a .value ∷ t .0)) = omega (arith, u .2, length-append (recordOf r (a .value)) (runOf r (t .0))) in
           rw (← t .2) (
             i .0,
-            u .0 ∙ ap (λ (y : List ℕ). recordOf r (a .0) ++ y) (i .1) ∙ sym (append-assoc (recordOf r (a .0)) (runOf r (t .0)) (i .0)),
+            u .0 ∙ ap (λ (y : List ℕ). recordOf r (a .value) ++ y) (i .1) ∙ sym (append-assoc (recordOf r (a .value)) (runOf r (t .0)) (i .0)),
             ((u .1, u .3), i .2),
             subst (λ (q : ℕ). hereIn r (i .0) q ≡ faulty n p) m (i .3),
           )
@@ -146,18 +146,18 @@ module _ (r : Members) where
   enough (suc k) [] b h = refl
   enough (suc k) (x ∷ w) b h = go (recordAt largest-record r (x ∷ w) b) λ a e.
       let u = recordAt-back largest-record r (x ∷ w) b a e in
-      let l : suc (length w) ≡ length (recordOf r (a .0)) + length (a .1) = ap length (u .0) ∙ length-append (recordOf r (a .0)) (a .1) in
-      let s = record-some (a .0) in
-      enough k (a .1) (a .2) (omega arith)
+      let l : suc (length w) ≡ length (recordOf r (a .value)) + length (a .rest) = ap length (u .0) ∙ length-append (recordOf r (a .value)) (a .rest) in
+      let s = record-some (a .value) in
+      enough k (a .rest) (a .after) (omega arith)
     where
-      go : (y : Res (Got (Values r))) → ((a : Got (Values r)) → y ≡ good a → runFrom (suc k) r (a .1) (a .2) ≡ runFrom k r (a .1) (a .2))
-          → (onward y λ a. andThen (a .0) (runFrom (suc k) r (a .1) (a .2))) ≡ (onward y λ a. andThen (a .0) (runFrom k r (a .1) (a .2)))
-      go (good a) f = ap (andThen (a .0)) (f a refl)
+      go : (y : Res (Got (Values r))) → ((a : Got (Values r)) → y ≡ good a → runFrom (suc k) r (a .rest) (a .after) ≡ runFrom k r (a .rest) (a .after))
+          → (onward y λ a. andThen (a .value) (runFrom (suc k) r (a .rest) (a .after))) ≡ (onward y λ a. andThen (a .value) (runFrom k r (a .rest) (a .after)))
+      go (good a) f = ap (andThen (a .value)) (f a refl)
       go (fault n p) f = refl
 
   -- ---- the run reader goes from record to record
 
-  pub here-there : T (clears r) → (s p : List ℕ) (v : Values r) (w : List ℕ) → Accepted r v → s ≡ p ++ (recordOf r v ++ w) → hereAt r s (length p) ≡ taken (v, w, length p + length (recordOf r v))
+  pub here-there : T (clears r) → (s p : List ℕ) (v : Values r) (w : List ℕ) → Accepted r v → s ≡ p ++ (recordOf r v ++ w) → hereAt r s (length p) ≡ taken (got v w (length p + length (recordOf r v)))
   unfolding hereAt hereIn
   here-there c s p v w ok e =
       let d : drop (length p) s ≡ recordOf r v ++ w = ap (drop (length p)) e ∙ drop-at p (recordOf r v ++ w) (length p) refl in
@@ -177,7 +177,7 @@ module _ (r : Members) where
   here-inside s p h = rw (drop-cons s p 0)
 
   -- what it takes is a record that stands there
-  pub here-back : (s : List ℕ) (p : ℕ) (a : Got (Values r)) → hereAt r s p ≡ taken a → (drop p s ≡ recordOf r (a .0) ++ a .1) × Accepted r (a .0) × (a .2 ≡ p + length (recordOf r (a .0)))
+  pub here-back : (s : List ℕ) (p : ℕ) (a : Got (Values r)) → hereAt r s p ≡ taken a → (drop p s ≡ recordOf r (a .value) ++ a .rest) × Accepted r (a .value) × (a .after ≡ p + length (recordOf r (a .value)))
   unfolding hereAt hereIn
   here-back s p a e = go (drop p s) e
     where
@@ -185,13 +185,13 @@ module _ (r : Members) where
       by-here (good b) f = let g : b ≡ a = cc in rw g
       by-here (fault n q) f = let z : _≡_ {A = ℕ} 0 1 = cc in let y : ⊥ = omega arith in absurd y
 
-      go : (w : List ℕ) → hereIn r w p ≡ taken a → (w ≡ recordOf r (a .0) ++ a .1) × Accepted r (a .0) × (a .2 ≡ p + length (recordOf r (a .0)))
+      go : (w : List ℕ) → hereIn r w p ≡ taken a → (w ≡ recordOf r (a .value) ++ a .rest) × Accepted r (a .value) × (a .after ≡ p + length (recordOf r (a .value)))
       go [] f = let z : _≡_ {A = ℕ} 0 1 = cc in let y : ⊥ = omega arith in absurd y
       go (x ∷ w) f = let u = recordAt-back largest-record r (x ∷ w) p a (by-here _ f) in (u .0, (u .1, u .3), u .2)
 
   -- ---- a step of the run reader, by what it sees
 
-  pub step-takes : (s : List ℕ) (x : Reader) (a : Got (Values r)) (n : ℕ) → hereAt r s (x .position) ≡ taken a → a .2 ≡ x .position + n
+  pub step-takes : (s : List ℕ) (x : Reader) (a : Got (Values r)) (n : ℕ) → hereAt r s (x .position) ≡ taken a → a .after ≡ x .position + n
       → (stepAnswer r s x ≡ told-two done (x .position) n) × (stepAfter r s x ≡ record { position = x .position + n; handed = oneMore (x .handed) })
   unfolding stepAnswer stepAfter
   step-takes s x a n e h = let f : x .position + n - x .position ≡ n = omega arith in (rw (e, h, f) refl, rw (e, h) refl)
@@ -234,8 +234,8 @@ module _ (r : Members) where
   walk-records c s (v ∷ vs) ok k (suc m) b n b′ n′ before rest em es eb et ep en =
       let w : List ℕ = runOf r vs ++ rest in
       let q : s ≡ before ++ (recordOf r v ++ w) = es ∙ ap (λ (y : List ℕ). before ++ y) (append-assoc (recordOf r v) (runOf r vs) rest) in
-      let here : hereAt r s b ≡ taken (v, w, b + length (recordOf r v)) = rw eb (here-there c s before v w (ok .0) q) in
-      let t = step-takes s (at b n) (v, w, b + length (recordOf r v)) (length (recordOf r v)) here refl in
+      let here : hereAt r s b ≡ taken (got v w (b + length (recordOf r v))) = rw eb (here-there c s before v w (ok .0) q) in
+      let t = step-takes s (at b n) (got v w (b + length (recordOf r v))) (length (recordOf r v)) here refl in
       let o : oneMore n ≡ n + 1 = one-more n (omega arith) in
       let l = length-append (recordOf r v) (runOf r vs) in
       let i = walk-records c s vs (ok .1) k m (b + length (recordOf r v)) (n + 1) b′ n′ (before ++ recordOf r v) rest (omega arith) (q ∙ sym (append-assoc before (recordOf r v) w)) (omega (arith, length-append before (recordOf r v))) (omega arith) (omega arith) (omega arith) in

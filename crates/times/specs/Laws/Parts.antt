@@ -19,7 +19,7 @@ use Rattle.times.specs.declared.Parsed.the-variants.{Number, Nothing}
 -- ---- what code answers of a reading
 
 unfoldable pub heard : Res (Got ℕ) → Parsed
-heard (good x) = Number (x .0)
+heard (good x) = Number (x .value)
 heard (fault n p) = Nothing
 
 -- go on with the number
