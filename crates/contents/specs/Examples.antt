@@ -8,7 +8,7 @@ use lib.IntN.{ℤ, pos, negsuc}
 use Rattle.terms.specs.Numbers.{done, bad-integer, not-allowed, not-es, bad-character, bad-time, bad-identifier, bad-bits, bad-boolean, no-bytes}
 use Rattle.terms.specs.Answer.{pick, bind, need, every, enough, same, Told, refuses, told-none}
 use Rattle.terms.specs.Digits.{digits, numberFrom}
-use Rattle.terms.specs.Laws.Table.{Row, asks, answers, sameWhole, sameWholes, sameTold, agree, agreed}
+use Rattle.terms.specs.Laws.Table.{Row, asks, answers, sameNumber, sameNumbers, sameTold, agree, agreed}
 use Rattle.contents.specs.Content.{toldCheck, ask, passes}
 use Rattle.contents.specs.Integer.{sign, shortest, wellFormed, turned, value, eight, shrink, contentOf, any, isKind, isMillimetres}
 use Rattle.contents.specs.Text.{within, starts, follows, textFrom, ia5, printable, utf8, partsFrom, isIdentifier}
@@ -17,7 +17,7 @@ use Rattle.contents.specs.Rules.{may-be-empty, needs-a-byte, integerRule
 use Rattle.contents.specs.Leaves.{headerName, version, knownRule}
 
 evaluate : Unit {0}
-unfolding pick bind need every enough same sameWhole sameWholes sameTold agree digits numberFrom ask passes sign shortest wellFormed turned value eight shrink contentOf within starts follows textFrom partsFrom isIdentifier leap monthLength possible isDigit partFrom zulu timeFrom timeCheck timeRule written isReal integerRule stringRule octetsRule bitsRule identifierRule booleanRule also onlyRule
+unfolding pick bind need every enough same sameNumber sameNumbers sameTold agree digits numberFrom ask passes sign shortest wellFormed turned value eight shrink contentOf within starts follows textFrom partsFrom isIdentifier leap monthLength possible isDigit partFrom zulu timeFrom timeCheck timeRule written isReal integerRule stringRule octetsRule bitsRule identifierRule booleanRule also onlyRule
 evaluate = tt
 
 -- a rule that refuses with a number

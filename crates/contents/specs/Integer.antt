@@ -7,7 +7,7 @@ use lib.ListN.{length, replicate}
 use lib.Dec.{leb, ltb, eqb}
 use lib.IntN.{ℤ, pos, negsuc}
 use lib.Signed.{leZ, mag}
-use Rattle.terms.specs.Answer.{pick}
+use Rattle.terms.specs.Answer.{pick, same}
 use Rattle.terms.specs.Digits.{digits, number}
 
 -- the byte that may stand before another without changing the number
@@ -80,9 +80,6 @@ unstretch x = pick (eqb (length x) section-bytes) (some (shrink x)) none
 abbrev pub any : ℤ → Bool
 any z = true
 
-abbrev pub is : ℕ → ℤ → Bool
-is n z = leZ (pos n) z && leZ z (pos n)
-
 abbrev pub fromOne : ℤ → ℤ → Bool
 fromOne most z = leZ (pos 1) z && leZ z most
 
@@ -92,7 +89,7 @@ isKind z = fromOne (pos 2) z
 
 -- "Kind 1", of the kind's content
 abbrev pub saysKind1 : List ℕ → Bool
-saysKind1 c = is 1 (value c)
+saysKind1 c = same c (0x01 ∷ [])
 
 -- "width and height in mm, INTEGER 1 to 65,535"
 abbrev pub isMillimetres : ℤ → Bool

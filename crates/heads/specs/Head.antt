@@ -63,16 +63,21 @@ unfoldable pub opening : ℕ → List ℕ → ℕ → Res Size
 opening t [] b = fault item-missing b
 opening t (x ∷ w) b = need (eqb x t) other-tag b (size b w)
 
--- an item cut off a window: its content, what stands after it, and where its content starts
-abbrev pub Cut : Type 0
-Cut = List ℕ × List ℕ × ℕ
+-- an item cut off a window: its content, what stands after it, and the offset of its content
+pub record Cut : Type 0 where
+  pub content : List ℕ
+  pub rest : List ℕ
+  pub start : ℕ
+
+abbrev pub cutOff : List ℕ → List ℕ → ℕ → Cut
+cutOff c w s = record { content = c; rest = w; start = s }
 
 -- how many bytes stand before a content of `n` bytes
 abbrev pub before : ℕ → ℕ
 before n = 1 + length (octets n)
 
 unfoldable pub cut : ℕ → Size → Res Cut
-cut b z = need (leb (z .0) (length (z .1))) past-end b (good (take (z .0) (z .1), drop (z .0) (z .1), b + before (z .0)))
+cut b z = need (leb (z .0) (length (z .1))) past-end b (good (cutOff (take (z .0) (z .1)) (drop (z .0) (z .1)) (b + before (z .0))))
 
 unfoldable pub head : ℕ → List ℕ → ℕ → Res Cut
 head t w b = bind (opening t w b) λ z. cut b z

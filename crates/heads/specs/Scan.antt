@@ -9,7 +9,7 @@ use Rattle.heads.specs.declared.Seen.{Seen}
 use Rattle.heads.specs.declared.Seen.the-variants.{Item, Refused}
 
 abbrev pub seen : Res Cut → Seen
-seen (good c) = Item (c .2) (c .2 + length (c .0))
+seen (good c) = Item (c .start) (c .start + length (c .content))
 seen (fault n p) = Refused n p
 
 unfoldable pub headAt : ℕ → List ℕ → ℕ → ℕ → Seen

@@ -1,11 +1,11 @@
 -- The number of a content, by positions. Assumes nothing.
 use Prim.Native.Nat.{ℕ, _-_}
-use mathlib.Core.Bool.{Bool, true, false, _&&_}
+use mathlib.Core.Bool.{Bool, true, false}
 use mathlib.Core.List.{List}
 use lib.Seq.{slice}
 use lib.IntN.{ℤ, pos, negsuc}
 use Rattle.terms.specs.Answer.{pick}
-use Rattle.contents.specs.Integer.{wellFormed, turned, value, any, is, isKind, isMillimetres}
+use Rattle.contents.specs.Integer.{wellFormed, turned, value, any, isKind, isMillimetres}
 use Rattle.integers.specs.declared.Number.{Number}
 use Rattle.integers.specs.declared.Number.the-variants.{Value, Bad}
 use Rattle.integers.specs.declared.Allowed.{Allowed}
@@ -30,10 +30,6 @@ numberOf c = pick (wellFormed c) (Value (value c)) Bad
 
 unfoldable pub numberAt : List ℕ → ℕ → ℕ → Number
 numberAt s a z = numberOf (slice a z s)
-
--- a content whose number is 1
-unfoldable pub isOne : List ℕ → Bool
-isOne c = wellFormed c && is 1 (value c)
 
 -- the numbers that are allowed
 abbrev pub allowedOf : Allowed → ℤ → Bool

@@ -2,7 +2,6 @@
 ghost use mathlib.Core.Path.{_≡_};
 ghost use Prim.Native.Nat.{_≤_, _<_, _^_};
 ghost use lib.ListN.{length, getD};
-ghost use lib.Seq.{slice};
 ghost use Rattle.contents.specs.Integer.{sign, shortest, value, fromOne, eight as eightOf, shrink, contentOf};
 ghost use lib.Signed.{mag};
 ghost use mathlib.Core.Bool.{not};
@@ -11,7 +10,7 @@ ghost use Rattle.contents.specs.Leaves.{knownRule, version as versionItem};
 ghost use Rattle.contents.specs.Rules.{integerRule};
 ghost use Rattle.contents.specs.Scan.{checkedAt};
 ghost use Rattle.terms.specs.Digits.{number, digits as digitsOf};
-ghost use Rattle.integers.specs.Number.{digitOf, turnedIf, negative, numberOf, numberAt, isOne, allowedOf};
+ghost use Rattle.integers.specs.Number.{digitOf, turnedIf, negative, numberOf, numberAt, allowedOf};
 use contents::Checked;
 
 // The paper's numbers of the refusals that an INTEGER gets.
@@ -143,16 +142,6 @@ pub fn integer(s: &[u8], at: usize, a: usize, z: usize, allowed: Allowed) -> Che
         return Checked::Fine;
     }
     Checked::Wrong(NOT_ALLOWED, at)
-}
-
-// Whether a content is the number 1.
-pub fn is_one(s: &[u8], a: usize, z: usize) -> bool
-    ensures { λ r. ⌜ r ≡ isOne (slice a z (now (s .entry))) ⌝ }
-{
-    let Number::Value(v) = read(s, a, z) else {
-        return false;
-    };
-    is_within(v, 1)
 }
 
 // The version by its rule: 6, then 7 where it is not 4.

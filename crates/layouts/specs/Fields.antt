@@ -23,11 +23,11 @@ pub record Entry : Type 0 where
   pub bytes : List ℕ
   pub items : ℕ
 
-abbrev pub listed : Field → ℕ → ℕ → List ℕ → ℕ → Entry
-listed f k b x n = record { name = f; index = k; place = b; bytes = x; items = n }
+abbrev pub listEntry : Field → ℕ → ℕ → List ℕ → ℕ → Entry
+listEntry f k b x n = record { name = f; index = k; place = b; bytes = x; items = n }
 
 abbrev pub entry : Field → ℕ → ℕ → List ℕ → Entry
-entry f k b x = listed f k b x 0
+entry f k b x = listEntry f k b x 0
 
 -- the items of a list, from index `k` on
 unfoldable pub eachFields : {A : Type 0} → (ℕ → A → ℕ → List Entry) → (A → List ℕ) → ℕ → List A → ℕ → List Entry
@@ -55,7 +55,7 @@ unfoldable mutual
   itemFields (node t r) f k v b = entry f k b (tlv t (encodes r v)) ∷ runFields r k v (b + before (length (encodes r v)))
   itemFields (list t e n g i) f k vs b =
       eachFields (λ j v p. itemFields i g j v p) (λ v. encode i v) 0 vs (b + before (length (each (λ v. encode i v) vs)))
-      ++ listed f k b (tlv t (each (λ v. encode i v) vs)) (length vs) ∷ []
+      ++ listEntry f k b (tlv t (each (λ v. encode i v) vs)) (length vs) ∷ []
   itemFields (wrap t i) f k v b = itemFields i f k v (b + before (length (encode i v)))
 
   pub runFields : (r : Members) → ℕ → Values r → ℕ → List Entry
@@ -85,7 +85,7 @@ unfoldable pub isField : Field → ℕ → Entry → Bool
 isField f k x = sameName f (x .name) && eqb k (x .index)
 
 -- the first that passes
-unfoldable pub first : (Entry → Bool) → List Entry → Option Entry
+unfoldable pub first : {A : Type 0} → (A → Bool) → List A → Option A
 first p [] = none
 first p (x ∷ xs) = pick (p x) (some x) (first p xs)
 

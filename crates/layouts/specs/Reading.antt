@@ -8,7 +8,7 @@ use mathlib.Core.List.{List, [], _∷_}
 use lib.ListN.{length}
 use lib.Dec.{eqb}
 use Rattle.terms.specs.Numbers.{left-over, no-item, too-many-items}
-use Rattle.terms.specs.Answer.{Res, good, fault, Got, pick, bind, need, enough}
+use Rattle.terms.specs.Answer.{Res, good, fault, Got, got, pick, bind, need, enough}
 use Rattle.heads.specs.Head.{Cut, head}
 use Rattle.contents.specs.Content.{Check, Leaf, judge}
 use Rattle.contents.specs.Leaves.{boolean, knownRule}
@@ -16,11 +16,11 @@ use Rattle.layouts.specs.Layout.{Item, leaf, node, list, wrap, Members, 
 
 -- where what follows an item starts
 abbrev pub next : Cut → ℕ
-next c = c .2 + length (c .0)
+next c = c .start + length (c .content)
 
 -- a primitive item: its head, then its own rule
 unfoldable pub readBy : ℕ → (List ℕ → Check) → List ℕ → ℕ → Res Cut
-readBy t rule w b = bind (head t w b) λ c. judge (rule (c .0)) b (c .2) (good c)
+readBy t rule w b = bind (head t w b) λ c. judge (rule (c .content)) b (c .start) (good c)
 
 abbrev pub readLeaf : Leaf → List ℕ → ℕ → Res Cut
 readLeaf l w b = readBy (l .tag) (l .rule) w b
@@ -40,38 +40,38 @@ unfoldable pub many : {A : Type 0} → (List ℕ → ℕ → Res (Got A)) → �
 many f zero [] b = good []
 many f zero (x ∷ w) b = fault too-many-items b
 many f (suc n) [] b = good []
-many f (suc n) (x ∷ w) b = bind (f (x ∷ w) b) λ a. bind (many f n (a .1) (a .2)) λ xs. good (a .0 ∷ xs)
+many f (suc n) (x ∷ w) b = bind (f (x ∷ w) b) λ a. bind (many f n (a .rest) (a .after)) λ xs. good (a .value ∷ xs)
 
 -- "An optional item is absent if nothing is left or another tag stands there"
 unfoldable pub readOption : {A : Type 0} → ℕ → (List ℕ → ℕ → Res (Got A)) → List ℕ → ℕ → Res (Got (Option A))
-readOption t f w b = pick (begins t w) (bind (f w b) λ a. good (some (a .0), a .1, a .2)) (good (none, w, b))
+readOption t f w b = pick (begins t w) (bind (f w b) λ a. good (got (some (a .value)) (a .rest) (a .after))) (good (got none w b))
 
 unfoldable pub readFlag : List ℕ → ℕ → Res (Got Bool)
-readFlag w b = pick (begins (boolean .tag) w) (bind (readLeaf boolean w b) λ c. good (true, c .1, next c)) (good (false, w, b))
+readFlag w b = pick (begins (boolean .tag) w) (bind (readLeaf boolean w b) λ c. good (got true (c .rest) (next c))) (good (got false w b))
 
 unfoldable pub readEither : {A B : Type 0} → Bool → (List ℕ → ℕ → Res (Got A)) → (List ℕ → ℕ → Res (Got B)) → List ℕ → ℕ → Res (Got (A ⊎ B))
-readEither t f g w b = pick t (bind (f w b) λ a. good (inl (a .0), a .1, a .2)) (bind (g w b) λ a. good (inr (a .0), a .1, a .2))
+readEither t f g w b = pick t (bind (f w b) λ a. good (got (inl (a .value)) (a .rest) (a .after))) (bind (g w b) λ a. good (got (inr (a .value)) (a .rest) (a .after)))
 
 unfoldable mutual
   pub read : (i : Item) → List ℕ → ℕ → Res (Got (Value i))
-  read (leaf l) w b = bind (readLeaf l w b) λ c. good (c .0, c .1, next c)
-  read (node t r) w b = bind (head t w b) λ c. bind (reads r (c .0) (c .2)) λ v. good (v, c .1, next c)
+  read (leaf l) w b = bind (readLeaf l w b) λ c. good (got (c .content) (c .rest) (next c))
+  read (node t r) w b = bind (head t w b) λ c. bind (reads r (c .content) (c .start)) λ v. good (got v (c .rest) (next c))
   read (list t e n f i) w b =
       bind (head t w b) λ c.
-      need (enough e (c .0)) no-item b
-      (bind (many (λ x p. read i x p) n (c .0) (c .2)) λ vs. good (vs, c .1, next c))
-  read (wrap t i) w b = bind (head t w b) λ c. bind (read i (c .0) (c .2)) λ a. bind (finish (a .1) (a .2)) λ u. good (a .0, c .1, next c)
+      need (enough e (c .content)) no-item b
+      (bind (many (λ x p. read i x p) n (c .content) (c .start)) λ vs. good (got vs (c .rest) (next c)))
+  read (wrap t i) w b = bind (head t w b) λ c. bind (read i (c .content) (c .start)) λ a. bind (finish (a .rest) (a .after)) λ u. good (got (a .value) (c .rest) (next c))
 
   pub reads : (r : Members) → List ℕ → ℕ → Res (Values r)
   reads end w b = finish w b
-  reads (m ▸ r) w b = bind (readPart m w b) λ a. bind (reads r (a .1) (a .2)) λ v. good (a .0, v)
+  reads (m ▸ r) w b = bind (readPart m w b) λ a. bind (reads r (a .rest) (a .after)) λ v. good (a .value, v)
 
   pub readPart : (m : Member) → List ℕ → ℕ → Res (Got (Part m))
-  readPart (known k) w b = bind (readBy (k .leaf .tag) (knownRule k) w b) λ c. good (tt, c .1, next c)
+  readPart (known k) w b = bind (readBy (k .leaf .tag) (knownRule k) w b) λ c. good (got tt (c .rest) (next c))
   readPart (one f i) w b = read i w b
   readPart (maybe f i) w b = readOption (tagOf i) (λ x p. read i x p) w b
   readPart (flag f) w b = readFlag w b
   readPart (choose f l t g i j) w b =
       bind (readLeaf l w b) λ c.
-      bind (readEither (t (c .0)) (λ x p. read i x p) (λ x p. read j x p) (c .1) (next c)) λ a.
-      good ((c .0, a .0), a .1, a .2)
+      bind (readEither (t (c .content)) (λ x p. read i x p) (λ x p. read j x p) (c .rest) (next c)) λ a.
+      good (got (c .content, a .value) (a .rest) (a .after))

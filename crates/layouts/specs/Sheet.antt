@@ -6,9 +6,9 @@ use mathlib.Core.List.{List, [], _∷_, _++_}
 use lib.ListN.{length, take, drop}
 use lib.Dec.{leb, eqb}
 use Rattle.terms.specs.Numbers.{no-item, too-many-items, bad-sheet}
-use Rattle.terms.specs.Answer.{Res, good, Got, pick, bind, need, have, same}
+use Rattle.terms.specs.Answer.{Res, good, Got, got, pick, bind, need, have, same}
 use Rattle.terms.specs.Digits.{digits, leading}
-use Rattle.heads.specs.Head.{Cut}
+use Rattle.heads.specs.Head.{Cut, cutOff}
 use Rattle.contents.specs.Content.{Leaf, judge}
 use Rattle.layouts.specs.Layout.{Item, leaf, node, list, wrap, Members, end, _▸_, Member, known, one, maybe, flag, choose, Value, Values, Part, each, either}
 use Rattle.layouts.specs.Reading.{next, readEither}
@@ -26,9 +26,9 @@ unfoldable pub section : List ℕ → List ℕ
 section x = count (length x) ++ x
 
 -- "critical, of one byte 0 or 1"
-unfoldable pub bit : Bool → List ℕ
-bit true = 1 ∷ []
-bit false = 0 ∷ []
+unfoldable pub criticalByte : Bool → List ℕ
+criticalByte true = 1 ∷ []
+criticalByte false = 0 ∷ []
 
 -- "An optional field has count 0 or 1, then itself."
 unfoldable pub sheetOption : {A : Type 0} → (A → List ℕ) → Option A → List ℕ
@@ -54,7 +54,7 @@ unfoldable mutual
   sheetPart (known k) v = []
   sheetPart (one f i) v = sheet i v
   sheetPart (maybe f i) v = sheetOption (λ x. sheet i x) v
-  sheetPart (flag f) v = section (bit v)
+  sheetPart (flag f) v = section (criticalByte v)
   sheetPart (choose f l t g i j) v = section (l .pack (v .0)) ++ either (λ x. sheet i x) (λ x. sheet j x) (v .1)
 
 -- ---- reading: 19 before a section's own rule
@@ -64,26 +64,26 @@ readCount w p = have (leading count-bytes w) bad-sheet p
 
 -- a section's bytes, what stands after it, and where its bytes start
 unfoldable pub readSection : List ℕ → ℕ → Res Cut
-readSection w p = bind (readCount w p) λ n. need (leb (n .0) (length (n .1))) bad-sheet p (good (take (n .0) (n .1), drop (n .0) (n .1), p + count-bytes))
+readSection w p = bind (readCount w p) λ n. need (leb (n .0) (length (n .1))) bad-sheet p (good (cutOff (take (n .0) (n .1)) (drop (n .0) (n .1)) (p + count-bytes)))
 
 unfoldable pub fillLeaf : Leaf → List ℕ → ℕ → Res (Got (List ℕ))
-fillLeaf l w p = bind (readSection w p) λ c. bind (have (l .unpack (c .0)) bad-sheet p) λ k. judge (l .rule k) p (c .2) (good (k, c .1, next c))
+fillLeaf l w p = bind (readSection w p) λ c. bind (have (l .unpack (c .content)) bad-sheet p) λ k. judge (l .rule k) p (c .start) (good (got k (c .rest) (next c)))
 
 unfoldable pub times : {A : Type 0} → (List ℕ → ℕ → Res (Got A)) → ℕ → List ℕ → ℕ → Res (Got (List A))
-times f zero w p = good ([], w, p)
-times f (suc n) w p = bind (f w p) λ a. bind (times f n (a .1) (a .2)) λ xs. good (a .0 ∷ xs .0, xs .1, xs .2)
+times f zero w p = good (got [] w p)
+times f (suc n) w p = bind (f w p) λ a. bind (times f n (a .rest) (a .after)) λ xs. good (got (a .value ∷ xs .value) (xs .rest) (xs .after))
 
-unfoldable pub unbit : List ℕ → Option Bool
-unbit x = pick (same x (0 ∷ [])) (some false) (pick (same x (1 ∷ [])) (some true) none)
+unfoldable pub criticalIn : List ℕ → Option Bool
+criticalIn x = pick (same x (0 ∷ [])) (some false) (pick (same x (1 ∷ [])) (some true) none)
 
 unfoldable pub fillFlag : List ℕ → ℕ → Res (Got Bool)
-fillFlag w p = bind (readSection w p) λ c. bind (have (unbit (c .0)) bad-sheet p) λ v. good (v, c .1, next c)
+fillFlag w p = bind (readSection w p) λ c. bind (have (criticalIn (c .content)) bad-sheet p) λ v. good (got v (c .rest) (next c))
 
 unfoldable pub fillOption : {A : Type 0} → (List ℕ → ℕ → Res (Got A)) → List ℕ → ℕ → Res (Got (Option A))
 fillOption f w p =
     bind (readCount w p) λ n.
-    pick (eqb (n .0) 0) (good (none, n .1, p + count-bytes))
-    (need (eqb (n .0) 1) bad-sheet p (bind (f (n .1) (p + count-bytes)) λ a. good (some (a .0), a .1, a .2)))
+    pick (eqb (n .0) 0) (good (got none (n .1) (p + count-bytes)))
+    (need (eqb (n .0) 1) bad-sheet p (bind (f (n .1) (p + count-bytes)) λ a. good (got (some (a .value)) (a .rest) (a .after))))
 
 -- 15 and 16 stand at the list's count
 unfoldable pub fillList : {A : Type 0} → Bool → ℕ → (List ℕ → ℕ → Res (Got A)) → List ℕ → ℕ → Res (Got (List A))
@@ -99,15 +99,15 @@ unfoldable mutual
   fill (wrap t i) w p = fill i w p
 
   pub fills : (r : Members) → List ℕ → ℕ → Res (Got (Values r))
-  fills end w p = good (tt, w, p)
-  fills (m ▸ r) w p = bind (fillPart m w p) λ a. bind (fills r (a .1) (a .2)) λ v. good ((a .0, v .0), v .1, v .2)
+  fills end w p = good (got tt w p)
+  fills (m ▸ r) w p = bind (fillPart m w p) λ a. bind (fills r (a .rest) (a .after)) λ v. good (got (a .value, v .value) (v .rest) (v .after))
 
   pub fillPart : (m : Member) → List ℕ → ℕ → Res (Got (Part m))
-  fillPart (known k) w p = good (tt, w, p)
+  fillPart (known k) w p = good (got tt w p)
   fillPart (one f i) w p = fill i w p
   fillPart (maybe f i) w p = fillOption (λ x q. fill i x q) w p
   fillPart (flag f) w p = fillFlag w p
   fillPart (choose f l t g i j) w p =
       bind (fillLeaf l w p) λ c.
-      bind (readEither (t (c .0)) (λ x q. fill i x q) (λ x q. fill j x q) (c .1) (c .2)) λ a.
-      good ((c .0, a .0), a .1, a .2)
+      bind (readEither (t (c .value)) (λ x q. fill i x q) (λ x q. fill j x q) (c .rest) (c .after)) λ a.
+      good (got (c .value, a .value) (a .rest) (a .after))

@@ -5,7 +5,7 @@ use mathlib.Core.List.{List, [], _∷_, _++_}
 use lib.ListN.{length, drop}
 use lib.Dec.{leb}
 use Rattle.terms.specs.Numbers.{done, too-large, bad-sheet, no-room}
-use Rattle.terms.specs.Answer.{Res, good, fault, Got, bind, need, Told, told-one, refusal}
+use Rattle.terms.specs.Answer.{Res, good, fault, Got, got, bind, need, Told, told-one, refusal}
 use Rattle.heads.specs.Head.{tlv, outermost}
 use Rattle.layouts.specs.Layout.{Members, Values, Oks, encodes}
 use Rattle.layouts.specs.Reading.{next, reads, finish}
@@ -27,11 +27,11 @@ Allowed most r v = Oks r v × (length (recordOf r v) ≤ most)
 
 -- a record at the front of a window, whatever follows it
 unfoldable pub recordAt : ℕ → (r : Members) → List ℕ → ℕ → Res (Got (Values r))
-recordAt most r w b = bind (outermost most sequence w b) λ c. bind (reads r (c .0) (c .2)) λ v. good (v, c .1, next c)
+recordAt most r w b = bind (outermost most sequence w b) λ c. bind (reads r (c .content) (c .start)) λ v. good (got v (c .rest) (next c))
 
 -- a record that is the whole input
 unfoldable pub accept : ℕ → (r : Members) → List ℕ → Res (Values r)
-accept most r w = bind (recordAt most r w 0) λ a. bind (finish (a .1) (a .2)) λ u. good (a .0)
+accept most r w = bind (recordAt most r w 0) λ a. bind (finish (a .rest) (a .after)) λ u. good (a .value)
 
 -- ---- sheets
 
@@ -41,7 +41,7 @@ finishSheet [] p = good tt
 finishSheet (x ∷ w) p = fault bad-sheet p
 
 unfoldable pub acceptSheet : (r : Members) → List ℕ → Res (Values r)
-acceptSheet r w = bind (fills r w 0) λ x. bind (finishSheet (x .1) (x .2)) λ u. good (x .0)
+acceptSheet r w = bind (fills r w 0) λ x. bind (finishSheet (x .rest) (x .after)) λ u. good (x .value)
 
 -- ---- into a destination of `room` bytes
 

@@ -1,13 +1,14 @@
 -- A primitive item by its head and its rule; the small questions. Assumes nothing.
 use mathlib.Core.Path.{_≡_, refl, sym, ap, _∙_}
 use Prim.Native.Nat.{ℕ, _≤_, _<_}
-use mathlib.Core.Bool.{false}
-use mathlib.Core.List.{List}
+use mathlib.Core.Bool.{Bool, false}
+use mathlib.Core.List.{List, [], _∷_}
 use lib.ListN.{length, getD, List·getD-eq-default}
 use lib.Seq.{slice}
 use lib.Dec.{eqb}
 use borrow.Author.Tests.{lt-ltb, le-ltb}
 use Rattle.terms.specs.Numbers.{left-over}
+use Rattle.terms.specs.Answer.{same}
 use Rattle.terms.specs.Laws.Answer.{pick-lt, pick-ge}
 use Rattle.heads.specs.Scan.{headAt}
 use Rattle.heads.specs.declared.Seen.{Seen}
@@ -22,8 +23,10 @@ use Rattle.items.specs.declared.Tag.{Tag}
 use Rattle.items.specs.declared.Tag.the-variants as tag
 use Rattle.items.specs.Scan.{tagByte}
 use Rattle.layouts.specs.Scan.{judgeAt, ruleAt, beginsAt, closeAt}
+use Rattle.tables.specs.declared.Content.{Content}
+use Rattle.tables.specs.declared.Content.the-variants as content
 use Rattle.tables.specs.declared.Form.{Form}
-use Rattle.tables.specs.Table.{leafOf, knownOf}
+use Rattle.tables.specs.Table.{leafOf, knownOf, says}
 use Rattle.tables.specs.declared.Word.{Word}
 use Rattle.leaves.specs.Leaf.{judgedAt, pastOf}
 
@@ -88,6 +91,9 @@ module _ (s : List ℕ) (p a z : ℕ) (y : Checked) where
 
   pub word-rule : (w v : Word) → w ≡ v → y ≡ checkedAt (knownRule (knownOf v)) s p a z → y ≡ checkedAt (knownRule (knownOf w)) s p a z
   word-rule w v i h = rw i h
+
+pub content-says : (s : List ℕ) (c : Content) (a z : ℕ) (w : List ℕ) (t : Bool) → w ≡ slice a z s → t ≡ same w (0x01 ∷ []) → t ≡ says c (slice a z s)
+content-says s content.Kind1 a z w t i h = rw (← i) h
 
 module _ (c : Checked) (a z : ℕ) where
   pub judged-fine : c ≡ Fine → Item a z ≡ judgedAt c a z

@@ -4,16 +4,18 @@ use heads::Seen;
 use heads::Step;
 use integers::Allowed;
 use items::Tag;
+use tables::Content;
 use tables::Form;
 use tables::Word;
 use texts::MAY_BE_EMPTY;
 use texts::NEEDS_A_BYTE;
 ghost use mathlib.Core.Path.{_≡_};
+ghost use lib.Seq.{slice};
 ghost use Rattle.contents.specs.Leaves.{knownRule};
 ghost use Rattle.contents.specs.Scan.{checkedAt};
 ghost use Rattle.items.specs.Scan.{tagByte};
 ghost use Rattle.layouts.specs.Scan.{ruleAt, leafAt, beginsAt, closeAt};
-ghost use Rattle.tables.specs.Table.{leafOf, knownOf};
+ghost use Rattle.tables.specs.Table.{leafOf, knownOf, says};
 ghost use Rattle.leaves.specs.Leaf.{judgedAt, pastOf};
 
 // Bytes left after the last item.
@@ -90,6 +92,16 @@ pub fn known(s: &[u8], w: Word, at: usize, end: usize) -> Seen
         return h;
     };
     judged(word_rule(s, w, at, a, z), a, z)
+}
+
+// Whether what stands from one position to another is the content that is named.
+pub fn is_content(s: &[u8], c: Content, a: usize, z: usize) -> bool
+    ensures { λ r. ⌜ r ≡ says c (slice a z (now (s .entry))) ⌝ }
+{
+    let w = windows::window(s, a, z);
+    match c {
+        Content::Kind1 => windows::is_same(w, b"\x01"),
+    }
 }
 
 // Where what follows an item starts, or its refusal.

@@ -40,7 +40,7 @@ fn number_of(f: Field) -> usize
         Field::CertificateList => 8,
         Field::ListedCertificate => 9,
         Field::ListedEntry => 10,
-        Field::ListedName => 11,
+        Field::ListedType => 11,
         Field::ListedDigest => 12,
         Field::Created => 13,
         Field::Start => 14,

@@ -14,11 +14,11 @@ use Rattle.layouts.specs.Laws.Places.{placed-once}
 use Rattle.layouts.specs.Whole.{toldOutcome}
 use Rattle.layouts.specs.declared.Outcome.{Outcome}
 use Rattle.layouts.specs.declared.Outcome.the-variants.{Length, Refused as NotDone}
-use Rattle.records.specs.Handing.{toldPart, toldWhole, toldIs, toldItems}
+use Rattle.records.specs.Handing.{toldPart, toldNumber, toldIs, toldItems}
 use Rattle.records.specs.declared.Part.{Part}
 use Rattle.records.specs.declared.Part.the-variants.{There, Absent as NoPart, Refused as PartRefused}
-use Rattle.records.specs.declared.Whole.{Whole}
-use Rattle.records.specs.declared.Whole.the-variants.{Value, Absent as NoWhole, Refused as WholeRefused}
+use Rattle.records.specs.declared.Number.{Number}
+use Rattle.records.specs.declared.Number.the-variants.{Value, Absent as NoNumber, Refused as NumberRefused}
 use Rattle.records.specs.declared.Critical.{Critical}
 use Rattle.records.specs.declared.Critical.the-variants.{Is, Absent as NoCritical, Refused as CriticalRefused}
 use Rattle.records.specs.declared.Items.{Items}
@@ -71,18 +71,18 @@ part-back (PartRefused n p) = refl
 pub one-part : (x y : Part) → toldPart x ≡ toldPart y → x ≡ y
 one-part = one-answer toldPart part part-back
 
-abbrev integer : Told → Whole
-integer (gives n []) = NoWhole
+abbrev integer : Told → Number
+integer (gives n []) = NoNumber
 integer (gives n (x ∷ xs)) = Value x
-integer (refuses n xs) = WholeRefused n (nat 0 xs)
+integer (refuses n xs) = NumberRefused n (nat 0 xs)
 
-integer-back : (x : Whole) → integer (toldWhole x) ≡ x
+integer-back : (x : Number) → integer (toldNumber x) ≡ x
 integer-back (Value z) = refl
-integer-back NoWhole = refl
-integer-back (WholeRefused n p) = refl
+integer-back NoNumber = refl
+integer-back (NumberRefused n p) = refl
 
-pub one-integer : (x y : Whole) → toldWhole x ≡ toldWhole y → x ≡ y
-one-integer = one-answer toldWhole integer integer-back
+pub one-integer : (x y : Number) → toldNumber x ≡ toldNumber y → x ≡ y
+one-integer = one-answer toldNumber integer integer-back
 
 abbrev critical : Told → Critical
 critical (gives n []) = NoCritical

@@ -4,39 +4,42 @@
 use mathlib.Core.Path.{_≡_, refl, sym, ap, _∙_, subst}
 use mathlib.Core.Bool.{Bool, false, not, _&&_}
 use mathlib.Core.Option.{some}
-use mathlib.Core.List.{List, [], _++_, append-nil}
+use mathlib.Core.List.{List, [], _++_}
 use Prim.Native.Nat.{ℕ, _+_, _≤_, _<_}
 use native.Mathlib.Omega.{arith}
 use lib.ListN.{length, getD, take, drop}
 use lib.IntN.{ℤ}
-use lib.Dec.{T, leb}
+use lib.Dec.{T, leb, le→leb}
+use borrow.Author.Tests.{lt-leb}
 use Rattle.terms.specs.declared.Field.{Field}
 use Rattle.terms.specs.declared.Field.the-variants.{SignedPart, SealInformation}
-use Rattle.terms.specs.Numbers.{largest-record, unreal-time, done, run-end}
-use Rattle.terms.specs.Answer.{Res, good, fault, every, answered, told-two, told-none, refusal}
-use Rattle.terms.specs.Laws.Answer.{good-inj, and-r}
+use Rattle.terms.specs.Numbers.{largest-record, too-large, no-room, unreal-time, done, run-end}
+use Rattle.terms.specs.Answer.{Res, good, fault, Got, got, bind, need, every, answered, bit, Told, told-one, told-two, told-none, refusal}
+use Rattle.terms.specs.Laws.Answer.{good-inj, and-r, bind-eq, need-eq}
 use Rattle.terms.specs.Digits.{isByte}
 use Rattle.contents.specs.Integer.{value, contentOf, wellFormed, Fits, eight, stretch}
 use Rattle.contents.specs.Laws.Integer.{value-contentOf, contentOf-value, contentOf-wellFormed, eight-stretch}
-use Rattle.layouts.specs.Layout.{node, Members, Values, All, encode}
+use Rattle.layouts.specs.Layout.{node, Members, Values, Oks, All}
 use Rattle.layouts.specs.Sheet.{sheets}
-use Rattle.layouts.specs.Whole.{sequence, recordOf, Allowed, acceptSheet}
+use Rattle.layouts.specs.Whole.{sequence, recordOf, Allowed, recordAt, acceptSheet, fillSheet, writeRecord}
 use Rattle.layouts.specs.Fields.{Entry, fields, Stands, isField, first}
 use Rattle.layouts.specs.Places.{under, numbersOf, Placed}
-use Rattle.layouts.specs.Laws.Reading.{clear, clears, spare, prefix-free}
+use Rattle.layouts.specs.Laws.Reading.{clear, clears, spare}
+use Rattle.layouts.specs.Laws.Whole.{Wrote, Kept}
 use Rattle.layouts.specs.Laws.Whole as Whole
-use Rattle.layouts.specs.Laws.Fields.{fields-stand, first-stands}
+use Rattle.layouts.specs.Laws.Fields.{fields-stand, first-sought, first-holds}
 use Rattle.records.specs.Record.{sealInformation, seal, signedPart, signature}
-use Rattle.records.specs.Handing.{readRecord, recordAnswer, fieldsOf, fieldsIn, fillFrom, writeFrom, fillAfter, writeAfter, fieldAnswer, isListed, matchAnswer, valueAnswer, criticalAnswer, countAnswer, signedBytes, informationOf, signedPartOf, sealOf}
+use Rattle.records.specs.Handing.{readRecord, recordAnswer, fieldsOf, fieldsIn, fillAnswer, fillAfter, writeAnswer, writeAfter, isAmong, toldPlace, partNames, fieldAnswer, isListed, matchAnswer, integerNames, toldValue, valueAnswer, isOwner, toldCritical, criticalAnswer, listNames, toldCount, countAnswer, signedBytes, informationOf, signedPartOf, sealOf}
 use Rattle.records.specs.Laws.Record as Record
+use Rattle.records.specs.Laws.Handing.{Tells}
 use Rattle.records.specs.Laws.Handing as Handing
-use Rattle.runs.specs.Run.{runOf, whole, stopped, readRun, Reader, hereAt, taken, ended, faulty, oneMore, stepAfter, stepAnswer, refusal-after}
+use Rattle.runs.specs.Run.{runOf, whole, stopped, readRun, Reader, hereAt, hereOf, taken, ended, faulty, top, oneMore, stepAfter, stepAnswer, refusal-after}
 use Rattle.runs.specs.Laws.Run as Runs
-use Rattle.verdicts.specs.Verdict.{firstFailing, First, takesNotice, Facts, factsOf, signatureSteps, signatureValid, sealSteps, sealValid, makerOut, judged, signatureVerdict, sealVerdict}
+use Rattle.verdicts.specs.Verdict.{Step, firstFailing, Facts, factsOf, Rulebook, signatureRules, sealRules, makerOut, judged, verdict, toldVerdict}
 use Rattle.verdicts.specs.Findings.{allReal}
+use Rattle.verdicts.specs.Laws.Verdict.{FirstFailing, takesNotice}
 use Rattle.verdicts.specs.Laws.Verdict as Verdict
 use Rattle.verdicts.specs.declared.Findings.{Findings}
-use Rattle.verdicts.specs.declared.Verdict.the-variants.{Judged, Refused}
 
 -- The layouts that the promises are about: what may be missing in them cannot be mistaken for what follows, what is known is inside its
 -- rule, and no list is too long to count. The two that document 01 gives are such.
@@ -89,23 +92,37 @@ module _ (r : Members) (k : Clear r) where
   pub fields-stand-there : (w : List ℕ) (v : Values r) → readRecord r w ≡ good v → All (Stands w) (fields r v)
   fields-stand-there w v e = subst (λ (s : List ℕ). All (Stands s) (fields r v)) (sym (accepted-is-right w v e .0)) (fields-stand r v)
 
-  pub handed-out-stands-there : (w : List ℕ) (v : Values r) → readRecord r w ≡ good v → (p : Entry → Bool) (x : Entry) → first p (fields r v) ≡ some x
-      → take (length (x .bytes)) (drop (x .place) w) ≡ x .bytes
-  handed-out-stands-there w v e p x h = first-stands (Stands w) p (fields r v) x (fields-stand-there w v e) h .0
+  -- what is told of an accepted record: of the field that is asked for, and absent exactly where the value has none such
+  module _ (w : List ℕ) (v : Values r) (e : readRecord r w ≡ good v) where
+    abbrev Told-of : (Entry → Bool) → (Entry → Told) → Told → Type 0
+    Told-of p tell t = Tells w (fields r v) p tell t
 
-  -- what is told of a field's place is the field's own bytes there
-  pub part-is-the-field : (w : List ℕ) (v : Values r) → readRecord r w ≡ good v → (f : Field) (i a n : ℕ) → fieldAnswer r f i w ≡ told-two done a n
-      → (x : Entry) × (first (isField f i) (fields r v) ≡ some x) × (take n (drop a w) ≡ x .bytes)
-  part-is-the-field w v e f i a n h =
-      let t = Handing.part-told r w v e f i a n h in
-      (t .0, t .1, rw (t .2, t .3) at (handed-out-stands-there w v e (isField f i) (t .0) (t .1)))
+    -- "handed out as a part of the lent record, .. in a list by index, absent past the last"
+    pub part-is-the-field : (f : Field) (i : ℕ) → Told-of (isAmong partNames f i) toldPlace (fieldAnswer r f i w)
+    unfolding fieldAnswer
+    part-is-the-field f i = rw e (Handing.told-first w (fields r v) (fields-stand-there w v e) (isAmong partNames f i) toldPlace)
 
-  -- "given record and digest, the first equal entry in the record": what stands there is what was given
-  pub match-is-the-given : (w : List ℕ) (v : Values r) → readRecord r w ≡ good v → (given : List ℕ) (a n : ℕ) → matchAnswer r given w ≡ told-two done a n → take n (drop a w) ≡ given
-  match-is-the-given w v e given a n h =
-      let t = Handing.match-told r w v e given a n h in
-      let s = first-stands (Stands w) (isListed given) (fields r v) (t .0) (fields-stand-there w v e) (t .1) in
-      rw (t .2, t .3) at (s .0) ∙ Handing.listed-is given (t .0) (s .1)
+    -- "given record and digest, the first equal entry in the record"
+    pub match-is-the-first-equal : (given : List ℕ) → Told-of (isListed given) toldPlace (matchAnswer r given w)
+    unfolding matchAnswer
+    match-is-the-first-equal given = rw e (Handing.told-first w (fields r v) (fields-stand-there w v e) (isListed given) toldPlace)
+
+    pub equal-is-the-given : (given : List ℕ) (x : Entry) → T (isListed given x) → x .bytes ≡ given
+    equal-is-the-given given x t = Handing.listed-is given x t
+
+    -- "Integers and critical come as values."
+    pub value-is-the-field's : (f : Field) → Told-of (isAmong integerNames f 0) toldValue (valueAnswer r f w)
+    unfolding valueAnswer
+    value-is-the-field's f = rw e (Handing.told-first w (fields r v) (fields-stand-there w v e) (isAmong integerNames f 0) toldValue)
+
+    pub critical-is-the-item's : (f : Field) (i : ℕ) → Told-of (isOwner f i) (toldCritical f i (fields r v)) (criticalAnswer r f i w)
+    unfolding criticalAnswer
+    critical-is-the-item's f i = rw e (Handing.told-first w (fields r v) (fields-stand-there w v e) (isOwner f i) (toldCritical f i (fields r v)))
+
+    -- "Absent and present-with-no-items are different field values."
+    pub count-is-the-list's : (f : Field) → Told-of (isAmong listNames f 0) toldCount (countAnswer r f w)
+    unfolding countAnswer
+    count-is-the-list's f = rw e (Handing.told-first w (fields r v) (fields-stand-there w v e) (isAmong listNames f 0) toldCount)
 
   -- a refused record answers every question with its refusal
   pub refused-is-told : (w : List ℕ) (n p : ℕ) → readRecord r w ≡ fault n p → (f : Field) (i : ℕ) (given : List ℕ)
@@ -118,34 +135,81 @@ module _ (r : Members) (k : Clear r) where
   unfolding fieldsIn
   placed-stands-there w v e d h f x i =
       let u : under f d ≡ numbersOf (some x) = h f ∙ ap (λ (y : List Entry). numbersOf (first (isField f 0) y)) (ap (fieldsOf r) e) ∙ ap numbersOf i in
-      rw u (handed-out-stands-there w v e (isField f 0) x i)
+      rw u (first-holds (Stands w) (isField f 0) (fields r v) x (fields-stand-there w v e) (rw i at (first-sought (isField f 0) (fields r v))))
+
+  -- ---- sheets
+
+  -- what is taken for a sheet is a right value's sheet and nothing else, and the sheet of every accepted record is taken
+  pub sheet-is-right : (x : List ℕ) (v : Values r) → acceptSheet r x ≡ good v → (x ≡ sheets r v) × Oks r v
+  sheet-is-right x v e = Whole.sheet-back largest-record r x v e
+
+  pub right-is-a-sheet : (w : List ℕ) (v : Values r) → readRecord r w ≡ good v → acceptSheet r (sheets r v) ≡ good v
+  right-is-a-sheet w v e = Whole.sheet-taken largest-record r k Record.record-spelled w v e
+
+  -- "On any refusal the destination keeps all its bytes; on success only the reported number of first bytes changes."
+  -- What a caller with the destination `d` is answered and finds in it, in every case: a sheet that is filled from a record,
+  module _ (w d : List ℕ) where
+    abbrev Filled : List ℕ → Type 0
+    Filled x = Wrote d x (fillAnswer r w d) (fillAfter r w d)
+
+    abbrev NotFilled : ℕ → ℕ → Type 0
+    NotFilled n p = Kept d n p (fillAnswer r w d) (fillAfter r w d)
+
+    pub refused-record-fills-nothing : (n p : ℕ) → readRecord r w ≡ fault n p → NotFilled n p
+    unfolding fillAnswer fillAfter fillSheet bind
+    refused-record-fills-nothing n p e = Whole.refused-kept d _ n p (rw e)
+
+    module _ (v : Values r) (e : readRecord r w ≡ good v) where
+      pub record-fills-its-sheet : length (sheets r v) ≤ length d → Filled (sheets r v)
+      unfolding fillAnswer fillAfter fillSheet
+      record-fills-its-sheet h = Whole.fits-wrote d (sheets r v) _ (bind-eq _ e) h
+
+      -- "A reader that fills a sheet gives 20 after all else."
+      pub sheet-without-room : length d < length (sheets r v) → NotFilled no-room (length (sheets r v))
+      unfolding fillAnswer fillAfter fillSheet
+      sheet-without-room h = Whole.short-kept d (sheets r v) _ (bind-eq _ e) h
+
+  -- and a record that is written from a sheet
+  module _ (x d : List ℕ) where
+    abbrev Written : List ℕ → Type 0
+    Written w = Wrote d w (writeAnswer r x d) (writeAfter r x d)
+
+    abbrev NotWritten : ℕ → ℕ → Type 0
+    NotWritten n p = Kept d n p (writeAnswer r x d) (writeAfter r x d)
+
+    pub refused-sheet-writes-nothing : (n p : ℕ) → acceptSheet r x ≡ fault n p → NotWritten n p
+    unfolding writeAnswer writeAfter writeRecord bind
+    refused-sheet-writes-nothing n p e = Whole.refused-kept d _ n p (rw e)
+
+    -- "A writer reads the whole sheet first, then 17, then 20."
+    module _ (v : Values r) (e : acceptSheet r x ≡ good v) where
+      pub too-large-a-record : largest-record < length (recordOf r v) → NotWritten too-large 0
+      unfolding writeAnswer writeAfter writeRecord need
+      too-large-a-record h = Whole.refused-kept d _ too-large 0 (bind-eq _ e ∙ rw (lt-leb (length (recordOf r v)) largest-record h))
+
+      module _ (l : length (recordOf r v) ≤ largest-record) where
+        pub sheet-writes-its-record : length (recordOf r v) ≤ length d → Written (recordOf r v)
+        unfolding writeAnswer writeAfter writeRecord
+        sheet-writes-its-record h = Whole.fits-wrote d (recordOf r v) _ (bind-eq _ e ∙ need-eq _ _ _ _ (le→leb _ _ l)) h
+
+        pub record-without-room : length d < length (recordOf r v) → NotWritten no-room (length (recordOf r v))
+        unfolding writeAnswer writeAfter writeRecord
+        record-without-room h = Whole.short-kept d (recordOf r v) _ (bind-eq _ e ∙ need-eq _ _ _ _ (le→leb _ _ l)) h
 
   -- "Record → sheet → record and sheet → record → sheet give the same bytes.": each way succeeds wherever there is room
-  pub record-sheet-record : (w : List ℕ) (v : Values r) → readRecord r w ≡ good v → (room room′ : ℕ) → length (sheets r v) ≤ room → length w ≤ room′
-      → (x : List ℕ) × (fillFrom r w room ≡ good x) × (writeFrom r x room′ ≡ good w)
-  record-sheet-record w v e room room′ h h′ =
-      let t = Whole.record-sheet-record largest-record r k Record.record-spelled w v e room room′ h h′ in (sheets r v, t .0, t .1)
+  pub record-sheet-record : (w : List ℕ) (v : Values r) → readRecord r w ≡ good v → (d d′ : List ℕ) → length (sheets r v) ≤ length d → length w ≤ length d′
+      → (x : List ℕ) × Filled w d x × Written x d′ w
+  record-sheet-record w v e d d′ h h′ =
+      let a = accepted-is-right w v e in
+      let l : length (recordOf r v) ≤ length d′ = rw (← a .0) h′ in
+      (sheets r v, record-fills-its-sheet w d v e h, rw (← a .0) at (sheet-writes-its-record (sheets r v) d′ v (right-is-a-sheet w v e) (a .1 .1) l))
 
-  pub sheet-record-sheet : (x : List ℕ) (v : Values r) → acceptSheet r x ≡ good v → length (recordOf r v) ≤ largest-record → (room room′ : ℕ) → length (recordOf r v) ≤ room → length x ≤ room′
-      → (w : List ℕ) × (writeFrom r x room ≡ good w) × (fillFrom r w room′ ≡ good x)
-  sheet-record-sheet x v e l room room′ h h′ =
-      let t = Whole.sheet-record-sheet largest-record r k Record.record-spelled x v e l room room′ h h′ in (recordOf r v, t .0, t .1)
-
-  -- what a filler or a writer gave is such a sheet or record
-  pub filled-is-a-sheet : (w : List ℕ) (room : ℕ) (x : List ℕ) → fillFrom r w room ≡ good x → (v : Values r) × (readRecord r w ≡ good v) × (x ≡ sheets r v) × (acceptSheet r x ≡ good v) × (length x ≤ room)
-  filled-is-a-sheet w room x e = Whole.fillSheet-back largest-record r k Record.record-spelled w room x e
-
-  pub written-is-a-record : (x : List ℕ) (room : ℕ) (w : List ℕ) → writeFrom r x room ≡ good w → (v : Values r) × (acceptSheet r x ≡ good v) × (w ≡ recordOf r v) × (readRecord r w ≡ good v) × (length w ≤ room)
-  written-is-a-record x room w e = Whole.writeRecord-back largest-record r k Record.record-spelled x room w e
-
-  -- demand 1: "a refusal writes nothing into the caller's memory"
-  pub refused-fill-writes-nothing : (w d : List ℕ) (n p : ℕ) → fillFrom r w (length d) ≡ fault n p → fillAfter r w d ≡ d
-  unfolding fillAfter
-  refused-fill-writes-nothing w d n p e = rw e (Whole.stored-fault n p d)
-
-  pub refused-write-writes-nothing : (x d : List ℕ) (n p : ℕ) → writeFrom r x (length d) ≡ fault n p → writeAfter r x d ≡ d
-  unfolding writeAfter
-  refused-write-writes-nothing x d n p e = rw e (Whole.stored-fault n p d)
+  pub sheet-record-sheet : (x : List ℕ) (v : Values r) → acceptSheet r x ≡ good v → length (recordOf r v) ≤ largest-record → (d d′ : List ℕ) → length (recordOf r v) ≤ length d → length x ≤ length d′
+      → (w : List ℕ) × Written x d w × Filled w d′ x
+  sheet-record-sheet x v e l d d′ h h′ =
+      let a = sheet-is-right x v e in
+      let b : length (sheets r v) ≤ length d′ = rw (← a .0) h′ in
+      (recordOf r v, sheet-writes-its-record x d v e l h, rw (← a .0) at (record-fills-its-sheet (recordOf r v) d′ v (right-is-accepted v (a .1, l)) b))
 
   -- ---- demand 3: "Accepted records end to end, none or many"
 
@@ -161,17 +225,24 @@ module _ (r : Members) (k : Clear r) where
       → (rest : List ℕ) × (w ≡ runOf r vs ++ rest) × All (Right r) vs × (hereAt r w (length (runOf r vs)) ≡ faulty n p)
   refused-run-stops w vs n p e = Runs.run-stops r w vs n p e
 
-  -- the run reader sees a record where one begins, and the end at the end
-  pub reader-takes-a-record : (s p : List ℕ) (v : Values r) (w : List ℕ) → Right r v → s ≡ p ++ (recordOf r v ++ w) → hereAt r s (length p) ≡ taken (v, w, length p + length (recordOf r v))
-  reader-takes-a-record s p v w ok e = Runs.here-there r inner s p v w ok e
-
+  -- the run reader, at every position: the end at the end and past it, else what stands there, read as a record
   pub reader-ends : (s : List ℕ) (p : ℕ) → length s ≤ p → hereAt r s p ≡ ended
   reader-ends s p h = Runs.here-end r s p h
+
+  pub reader-reads : (s : List ℕ) (p : ℕ) → p < length s → hereAt r s p ≡ hereOf (recordAt largest-record r (drop p s) p)
+  reader-reads s p h = Runs.here-inside r s p h
+
+  -- it takes a right record where one stands, and what it takes is one
+  pub reader-takes-a-record : (s p : List ℕ) (v : Values r) (w : List ℕ) → Right r v → s ≡ p ++ (recordOf r v ++ w) → hereAt r s (length p) ≡ taken (got v w (length p + length (recordOf r v)))
+  reader-takes-a-record s p v w ok e = Runs.here-there r inner s p v w ok e
+
+  pub reader-takes-only-records : (s : List ℕ) (p : ℕ) (a : Got (Values r)) → hereAt r s p ≡ taken a → (drop p s ≡ recordOf r (a .value) ++ a .rest) × Right r (a .value) × (a .after ≡ p + length (recordOf r (a .value)))
+  reader-takes-only-records s p a e = Runs.here-back r s p a e
 
   -- it hands a record out where it stands, and goes on behind it with one more handed out; at the end and at a fault it stays
   pub reader-goes-on : (s p : List ℕ) (v : Values r) (w : List ℕ) (x : Reader) → Right r v → s ≡ p ++ (recordOf r v ++ w) → x .position ≡ length p
       → (stepAnswer r s x ≡ told-two done (x .position) (length (recordOf r v))) × (stepAfter r s x ≡ record { position = x .position + length (recordOf r v); handed = oneMore (x .handed) })
-  reader-goes-on s p v w x ok e h = Runs.step-takes r s x (v, w, x .position + length (recordOf r v)) (length (recordOf r v)) (rw h (reader-takes-a-record s p v w ok e)) refl
+  reader-goes-on s p v w x ok e h = Runs.step-takes r s x (got v w (x .position + length (recordOf r v))) (length (recordOf r v)) (rw h (reader-takes-a-record s p v w ok e)) refl
 
   pub reader-stays-at-the-end : (s : List ℕ) (x : Reader) → length s ≤ x .position → (stepAnswer r s x ≡ told-none run-end) × (stepAfter r s x ≡ x)
   reader-stays-at-the-end s x h = Runs.step-ends r s x (reader-ends s (x .position) h)
@@ -179,15 +250,21 @@ module _ (r : Members) (k : Clear r) where
   pub reader-stays-at-a-fault : (s : List ℕ) (x : Reader) (n p : ℕ) → hereAt r s (x .position) ≡ faulty n p → (stepAnswer r s x ≡ refusal-after n p (x .handed)) × (stepAfter r s x ≡ x)
   reader-stays-at-a-fault s x n p h = Runs.step-faults r s x n p h
 
+  -- a whole walk, from a reader that was made: it hands out the records of the list in order, each with its place, and then answers the end for ever,
+  -- with as many handed out as the list has; over a refused run the records before the fault, and then the fault for ever. No lent run has more than 2 ^ 64 - 1 bytes.
+  pub reader-walks-a-run : (vs : List (Values r)) → All (Right r) vs → length (runOf r vs) ≤ top → Runs.Walked r (runOf r vs) vs (told-none run-end)
+  reader-walks-a-run vs ok h = Runs.run-walked r inner vs ok h
+
+  pub reader-walks-a-refused-run : (w : List ℕ) (vs : List (Values r)) (n p : ℕ) → readRun r w ≡ stopped vs n p → length w ≤ top → Runs.Walked r w vs (refusal-after n p (length vs))
+  reader-walks-a-refused-run w vs n p e h = Runs.stop-walked r inner w vs n p e h
+
   -- "two lists of values never give the same bytes"
   pub two-lists-differ : (us vs : List (Values r)) → All (Right r) us → All (Right r) vs → runOf r us ≡ runOf r vs → us ≡ vs
   two-lists-differ us vs p q e = Runs.run-injective r inner us vs p q e
 
-  -- "no record is the beginning of a longer one"
-  pub no-beginning : (u v : Values r) → Right r u → Right r v → (rest : List ℕ) → recordOf r u ++ rest ≡ recordOf r v → rest ≡ []
-  unfolding encode
-  no-beginning u v a b rest e =
-      let p = prefix-free (node sequence r) k u v rest [] (a .0) (b .0) (omega (arith, a .1)) (omega (arith, b .1)) (e ∙ sym (append-nil (recordOf r v))) in p .1
+-- "no record is the beginning of a longer one": of whichever kind the two are
+pub no-beginning : (r q : Members) (w x : List ℕ) (u : Values r) (v : Values q) → readRecord r w ≡ good u → readRecord q x ≡ good v → (rest : List ℕ) → w ++ rest ≡ x → rest ≡ []
+no-beginning r q w x u v e g rest h = Record.no-beginning r q w x u v e g rest h
 
 -- "Signed bytes are the signed part, or the seal information, with its own tag and length."
 pub signed-bytes : (v : Values signature) → signedBytes SignedPart signature v ≡ recordOf signedPart (signedPartOf v)
@@ -211,42 +288,37 @@ sheet-begins-with-the-seal's v = Record.sheet-begins v
 
 -- ---- demand 2: "The verdict is the first step of the standard that fails on the findings, or valid."
 
--- "after refusals of the record, then 18"
-pub verdict-of-a-refused : (w : List ℕ) (n p : ℕ) (f : Findings) (a b : List ℕ) → readRecord signature w ≡ fault n p → signatureVerdict w f a b ≡ Refused n p
-unfolding signatureVerdict
-verdict-of-a-refused w n p f a b e = rw e (Verdict.weigh-refused signatureSteps signatureValid signature n p f a b)
+-- the same of both verdicts, and of any table of steps
+module _ (b : Rulebook) (w : List ℕ) (f : Findings) (original signer : List ℕ) where
+  -- "after refusals of the record, then 18"
+  pub verdict-of-a-refused : (n p : ℕ) → readRecord (b .layout) w ≡ fault n p → toldVerdict (verdict b w f original signer) ≡ refusal n p
+  unfolding verdict
+  verdict-of-a-refused n p e = rw (e, Verdict.weigh-refused b n p f original signer)
 
-pub verdict-of-unreal-times : (w : List ℕ) (v : Values signature) (f : Findings) (a b : List ℕ) → readRecord signature w ≡ good v → T (not (allReal f)) → signatureVerdict w f a b ≡ Refused unreal-time 0
-unfolding signatureVerdict
-verdict-of-unreal-times w v f a b e h = rw e (Verdict.weigh-unreal signatureSteps signatureValid signature v f a b h)
+  module _ (v : Values (b .layout)) (e : readRecord (b .layout) w ≡ good v) where
+    abbrev facts : Facts
+    facts = factsOf (b .layout) v f original signer
 
--- else the answer is the first failing row of the table, and the notice goes with 0 and 26 to 34 exactly when the maker is out of force now and at signing
-pub verdict-is-the-first : (w : List ℕ) (v : Values signature) (f : Findings) (a b : List ℕ) → readRecord signature w ≡ good v → T (allReal f)
-    → (signatureVerdict w f a b ≡ judged (firstFailing signatureSteps signatureValid (factsOf signature v f a b)) (factsOf signature v f a b))
-    × First signatureSteps signatureValid (factsOf signature v f a b) (firstFailing signatureSteps signatureValid (factsOf signature v f a b))
-unfolding signatureVerdict
-verdict-is-the-first w v f a b e h = (rw e (Verdict.weigh-judged signatureSteps signatureValid signature v f a b h), Verdict.first-failing signatureSteps signatureValid (factsOf signature v f a b))
+    -- the first failing row of the table
+    abbrev answer : Step Facts
+    answer = firstFailing (b .steps) (b .passed) facts
 
-pub notice-goes-with : (x : Facts) → judged (firstFailing signatureSteps signatureValid x) x
-    ≡ Judged (firstFailing signatureSteps signatureValid x .number) (takesNotice (firstFailing signatureSteps signatureValid x .number) && makerOut x)
-unfolding judged
-notice-goes-with x = rw (Verdict.signature-notice x)
+    pub verdict-of-unreal-times : T (not (allReal f)) → toldVerdict (verdict b w f original signer) ≡ refusal unreal-time 0
+    unfolding verdict
+    verdict-of-unreal-times h = rw (e, Verdict.weigh-unreal b v f original signer h)
 
--- the seal verdict likewise, with no notice
-pub seal-verdict-of-a-refused : (w : List ℕ) (n p : ℕ) (f : Findings) (a b : List ℕ) → readRecord seal w ≡ fault n p → sealVerdict w f a b ≡ Refused n p
-unfolding sealVerdict
-seal-verdict-of-a-refused w n p f a b e = rw e (Verdict.weigh-refused sealSteps sealValid seal n p f a b)
+    -- else the number of the first failing row, and the notice where the row carries it and the maker is out of force now and at signing
+    pub verdict-is-the-first : T (allReal f)
+        → (toldVerdict (verdict b w f original signer) ≡ told-one (answer .number) (bit (answer .carries && makerOut facts))) × FirstFailing (b .steps) (b .passed) facts answer
+    unfolding verdict judged
+    verdict-is-the-first h = (rw (e, Verdict.weigh-judged b v f original signer h), Verdict.first-failing (b .steps) (b .passed) facts)
 
-pub seal-verdict-of-unreal-times : (w : List ℕ) (v : Values seal) (f : Findings) (a b : List ℕ) → readRecord seal w ≡ good v → T (not (allReal f)) → sealVerdict w f a b ≡ Refused unreal-time 0
-unfolding sealVerdict
-seal-verdict-of-unreal-times w v f a b e h = rw e (Verdict.weigh-unreal sealSteps sealValid seal v f a b h)
+-- "A notice goes with 0 and 26 to 34"; the seal verdict "gives no notice"
+pub notice-goes-with : (x : Facts) → firstFailing (signatureRules .steps) (signatureRules .passed) x .carries ≡ takesNotice (firstFailing (signatureRules .steps) (signatureRules .passed) x .number)
+notice-goes-with x = Verdict.signature-notice x
 
-pub seal-verdict-is-the-first : (w : List ℕ) (v : Values seal) (f : Findings) (a b : List ℕ) → readRecord seal w ≡ good v → T (allReal f)
-    → (sealVerdict w f a b ≡ Judged (firstFailing sealSteps sealValid (factsOf seal v f a b) .number) false)
-    × First sealSteps sealValid (factsOf seal v f a b) (firstFailing sealSteps sealValid (factsOf seal v f a b))
-unfolding sealVerdict judged
-seal-verdict-is-the-first w v f a b e h =
-    (rw (e, Verdict.weigh-judged sealSteps sealValid seal v f a b h, Verdict.seal-notice (factsOf seal v f a b)), Verdict.first-failing sealSteps sealValid (factsOf seal v f a b))
+pub no-notice-with-a-seal : (x : Facts) → firstFailing (sealRules .steps) (sealRules .passed) x .carries ≡ false
+no-notice-with-a-seal x = Verdict.seal-notice x
 
 -- ---- integers: "One to eight two's-complement bytes become i64 and return", for every i64, both ends included
 

@@ -20,7 +20,7 @@ use Rattle.verdicts.specs.Examples.{evaluateVerdict, certificate, findings, c, 
 
 -- an INTEGER, read: its number
 abbrev toldInteger : Res (Got (List ℕ)) → Told
-toldInteger (good x) = gives done (value (x .0) ∷ [])
+toldInteger (good x) = gives done (value (x .value) ∷ [])
 toldInteger (fault n p) = refusal n p
 
 abbrev anInteger : List ℕ → Told

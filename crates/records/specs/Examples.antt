@@ -10,11 +10,11 @@ use mathlib.Core.List.{List, [], _∷_, _++_}
 use lib.ListN.{replicate, set, take, drop}
 use lib.IntN.{ℤ, pos, negsuc}
 use Rattle.terms.specs.declared.Field.{Field}
-use Rattle.terms.specs.declared.Field.the-variants.{SealInformation, Seal, Vendor, SealId, SealType, SealName, ListKind, CertificateList, ListedCertificate, ListedName, ListedDigest, Created, Start, End, PictureType, PictureData, Width, Height, SealCustomData, SealCustomId, SealCustomCritical, SealCustomValue, MakerCertificate, SealAlgorithm, SealSignedValue, SignedPart, SigningTime, OriginalDigest, PropertyText, SignedCustomData, SignedCustomId, SignedCustomCritical, SignedCustomValue, SignerCertificate, SignatureAlgorithm, SignatureValue, Stamp}
+use Rattle.terms.specs.declared.Field.the-variants.{SealInformation, Seal, Vendor, SealId, SealType, SealName, ListKind, CertificateList, ListedCertificate, ListedType, ListedDigest, Created, Start, End, PictureType, PictureData, Width, Height, SealCustomData, SealCustomId, SealCustomCritical, SealCustomValue, MakerCertificate, SealAlgorithm, SealSignedValue, SignedPart, SigningTime, OriginalDigest, PropertyText, SignedCustomData, SignedCustomId, SignedCustomCritical, SignedCustomValue, SignerCertificate, SignatureAlgorithm, SignatureValue, Stamp}
 use Rattle.terms.specs.Names.{code, sameName}
 use Rattle.terms.specs.Numbers.{done, absent, other-tag, bad-boolean, left-over, bad-length, item-missing}
 use Rattle.terms.specs.Answer.{Res, good, fault, pick, bind, need, have, every, enough, same, Told, gives, told-one, told-two, told-none, refusal}
-use Rattle.terms.specs.Laws.Table.{Row, asks, answers, sameWhole, sameWholes, sameTold, agree, agreed}
+use Rattle.terms.specs.Laws.Table.{Row, asks, answers, sameNumber, sameNumbers, sameTold, agree, agreed}
 use Rattle.terms.specs.Digits.{digits, numberFrom, leading}
 use Rattle.heads.specs.Head.{spell, octets, tlv, unspell, size, opening, cut, head, outermost}
 use Rattle.contents.specs.Content.{ask, passes, placeOf, judge}
@@ -24,17 +24,17 @@ use Rattle.contents.specs.Time.{leap, monthLength, possible, isDigit, partFrom,
 use Rattle.contents.specs.Rules.{integerRule, stringRule, octetsRule, bitsRule, identifierRule, booleanRule, also, onlyRule}
 use Rattle.layouts.specs.Layout.{Members, Values, each, option, either, critical, encode}
 use Rattle.layouts.specs.Reading.{readBy, begins, finish, many, readOption, readFlag, readEither, read}
-use Rattle.layouts.specs.Sheet.{count, section, bit, sheetOption, sheetList, sheet, readCount, readSection, fillLeaf, times, unbit, fillFlag, fillOption, fillList, fill}
+use Rattle.layouts.specs.Sheet.{count, section, criticalByte, sheetOption, sheetList, sheet, readCount, readSection, fillLeaf, times, criticalIn, fillFlag, fillOption, fillList, fill}
 use Rattle.layouts.specs.Whole.{recordAt, accept, finishSheet, acceptSheet, fit, fillSheet, writeRecord, stored}
 use Rattle.layouts.specs.Fields.{Entry, eachFields, optionFields, eitherFields, flagFields, itemFields, fields, isField, first, bytesIn, isThere}
 use Rattle.layouts.specs.Places.{numbersOf}
 use Rattle.records.specs.Record.{seal, signature}
-use Rattle.records.specs.Handing.{readRecord, fieldsIn, recordAnswer, fillAnswer, fillAfter, writeAnswer, writeAfter, fieldAnswer, isListed, matchAnswer, isOneOf, valueAnswer, criticalAnswer, countAnswer, signedBytes}
+use Rattle.records.specs.Handing.{readRecord, fieldsIn, recordAnswer, fillAnswer, fillAfter, writeAnswer, writeAfter, toldFirst, isOneOf, isAmong, fieldAnswer, isListed, matchAnswer, valueAnswer, isOwner, criticalAnswer, countAnswer, signedBytes}
 use Rattle.records.specs.Samples.{recordS, recordD}
 
 -- to name this one on a line is to name all that a reading, a sheet and a handing out compute with
 unfoldable pub evaluate : Unit {0}
-unfolding code sameName pick bind need have every enough same digits numberFrom leading spell octets tlv unspell size opening cut head outermost ask passes placeOf judge sign shortest wellFormed turned value shrink signOf stretch unstretch within starts follows textFrom partsFrom isIdentifier leap monthLength possible isDigit partFrom zulu timeFrom timeCheck timeRule integerRule stringRule octetsRule bitsRule identifierRule booleanRule also onlyRule each option either critical encode readBy begins finish many readOption readFlag readEither read count section bit sheetOption sheetList sheet readCount readSection fillLeaf times unbit fillFlag fillOption fillList fill recordAt accept finishSheet acceptSheet fit fillSheet writeRecord stored eachFields optionFields eitherFields flagFields itemFields fields isField first bytesIn isThere recordAnswer fillAnswer fillAfter writeAnswer writeAfter fieldsIn fieldAnswer isListed matchAnswer isOneOf valueAnswer criticalAnswer countAnswer sameWhole sameWholes sameTold agree
+unfolding code sameName pick bind need have every enough same digits numberFrom leading spell octets tlv unspell size opening cut head outermost ask passes placeOf judge sign shortest wellFormed turned value shrink signOf stretch unstretch within starts follows textFrom partsFrom isIdentifier leap monthLength possible isDigit partFrom zulu timeFrom timeCheck timeRule integerRule stringRule octetsRule bitsRule identifierRule booleanRule also onlyRule each option either critical encode readBy begins finish many readOption readFlag readEither read count section criticalByte sheetOption sheetList sheet readCount readSection fillLeaf times criticalIn fillFlag fillOption fillList fill recordAt accept finishSheet acceptSheet fit fillSheet writeRecord stored eachFields optionFields eitherFields flagFields itemFields fields isField first bytesIn isThere recordAnswer fillAnswer fillAfter writeAnswer writeAfter fieldsIn toldFirst isOneOf isAmong fieldAnswer isListed matchAnswer valueAnswer isOwner criticalAnswer countAnswer sameNumber sameNumbers sameTold agree
 evaluate = tt
 
 abbrev pub at : ℕ → ℕ → Told
@@ -141,9 +141,9 @@ fieldsD =
     ∷ (SealType, 0, 0xFD ∷ [])
     ∷ (SealName, 0, 0xE5 ∷ 0x8D ∷ 0xB0 ∷ [])
     ∷ (ListKind, 0, 0x02 ∷ [])
-    ∷ (ListedName, 0, 0x41 ∷ 0x64 ∷ 0x61 ∷ [])
+    ∷ (ListedType, 0, 0x41 ∷ 0x64 ∷ 0x61 ∷ [])
     ∷ (ListedDigest, 0, 0xD1 ∷ 0xD2 ∷ [])
-    ∷ (ListedName, 1, 0x42 ∷ 0x6F ∷ [])
+    ∷ (ListedType, 1, 0x42 ∷ 0x6F ∷ [])
     ∷ (ListedDigest, 1, 0xD3 ∷ [])
     ∷ (Created, 0, 0x32 ∷ 0x30 ∷ 0x32 ∷ 0x30 ∷ 0x30 ∷ 0x31 ∷ 0x30 ∷ 0x32 ∷ 0x30 ∷ 0x33 ∷ 0x30 ∷ 0x34 ∷ 0x30 ∷ 0x35 ∷ 0x5A ∷ [])
     ∷ (Start, 0, 0x32 ∷ 0x30 ∷ 0x32 ∷ 0x31 ∷ 0x30 ∷ 0x32 ∷ 0x30 ∷ 0x33 ∷ 0x30 ∷ 0x34 ∷ 0x30 ∷ 0x35 ∷ 0x30 ∷ 0x36 ∷ 0x5A ∷ [])

@@ -1,14 +1,14 @@
 -- Reading a seal and a signature record, filling and writing their sheets, and handing out (01, "Handing out"). Assumes nothing.
 use Prim.Native.Nat.{ℕ}
-use mathlib.Core.Bool.{Bool, true, false, _&&_, _||_}
+use mathlib.Core.Bool.{Bool, false, _&&_, _||_}
 use mathlib.Core.Option.{Option, none, some}
 use mathlib.Core.List.{List, [], _∷_}
 use lib.ListN.{length}
 use Rattle.terms.specs.declared.Field.{Field}
-use Rattle.terms.specs.declared.Field.the-variants.{CertificateList, Created, End, Height, ListKind, ListedCertificate, ListedDigest, ListedName, MakerCertificate, OriginalDigest, PictureData, PictureType, PropertyText, SealAlgorithm, SealCustomCritical, SealCustomData, SealCustomId, SealCustomItem, SealCustomValue, SealId, SealInformation, SealName, SealSignedValue, SealType, SignatureAlgorithm, SignatureValue, SignedCustomCritical, SignedCustomData, SignedCustomId, SignedCustomItem, SignedCustomValue, SignedPart, SignerCertificate, SigningTime, Stamp, Start, Vendor, Width}
+use Rattle.terms.specs.declared.Field.the-variants.{CertificateList, Created, End, Height, ListKind, ListedCertificate, ListedDigest, ListedType, MakerCertificate, OriginalDigest, PictureData, PictureType, PropertyText, SealAlgorithm, SealCustomCritical, SealCustomData, SealCustomId, SealCustomItem, SealCustomValue, SealId, SealInformation, SealName, SealSignedValue, SealType, SignatureAlgorithm, SignatureValue, SignedCustomCritical, SignedCustomData, SignedCustomId, SignedCustomItem, SignedCustomValue, SignedPart, SignerCertificate, SigningTime, Stamp, Start, Vendor, Width}
 use Rattle.terms.specs.Names.{sameName}
 use Rattle.terms.specs.Numbers.{done, absent, largest-record}
-use Rattle.terms.specs.Answer.{Res, good, fault, pick, same, bit, Told, gives, told-one, told-two, told-none, refusal, answered}
+use Rattle.terms.specs.Answer.{Res, good, fault, same, bit, Told, gives, told-one, told-two, told-none, refusal, answered}
 use Rattle.contents.specs.Integer.{value}
 use Rattle.layouts.specs.Layout.{Members, Values}
 use Rattle.layouts.specs.Whole.{accept, fillSheet, writeRecord, stored}
@@ -16,8 +16,8 @@ use Rattle.layouts.specs.Fields.{Entry, fields, isField, first, isThere, bytesI
 use Rattle.records.specs.Record.{sealInformation, seal, signedPart, signature}
 use Rattle.records.specs.declared.Part.{Part}
 use Rattle.records.specs.declared.Part.the-variants.{There, Absent as NoPart, Refused as PartRefused}
-use Rattle.records.specs.declared.Whole.{Whole}
-use Rattle.records.specs.declared.Whole.the-variants.{Value, Absent as NoWhole, Refused as WholeRefused}
+use Rattle.records.specs.declared.Number.{Number}
+use Rattle.records.specs.declared.Number.the-variants.{Value, Absent as NoNumber, Refused as NumberRefused}
 use Rattle.records.specs.declared.Critical.{Critical}
 use Rattle.records.specs.declared.Critical.the-variants.{Is, Absent as NoCritical, Refused as CriticalRefused}
 use Rattle.records.specs.declared.Items.{Items}
@@ -67,68 +67,74 @@ fieldsOf r (fault n p) = []
 unfoldable pub fieldsIn : Members → List ℕ → List Entry
 fieldsIn r w = fieldsOf r (readRecord r w)
 
--- where a field lies, start and length
-abbrev pub toldEntry : Option Entry → Told
-toldEntry none = told-none absent
-toldEntry (some x) = told-two done (x .place) (length (x .bytes))
+-- what is told of the first field that passes; absent where none does
+abbrev toldOr : (Entry → Told) → Option Entry → Told
+toldOr tell none = told-none absent
+toldOr tell (some x) = tell x
 
--- "the bytes its section has, or the signed bytes": the fields that are handed out as parts. Integers and critical come as values.
-abbrev pub partNames : List Field
-partNames =
-    SealInformation ∷ Vendor ∷ SealId ∷ SealName ∷ ListedCertificate ∷ ListedName ∷ ListedDigest ∷ Created ∷ Start
-    ∷ End ∷ PictureType ∷ PictureData ∷ SealCustomId ∷ SealCustomValue ∷ MakerCertificate ∷ SealAlgorithm ∷ SealSignedValue ∷ SignedPart
-    ∷ SigningTime ∷ OriginalDigest ∷ PropertyText ∷ SignedCustomId ∷ SignedCustomValue ∷ SignerCertificate ∷ SignatureAlgorithm ∷ SignatureValue ∷ Stamp ∷ []
+unfoldable pub toldFirst : (Entry → Bool) → (Entry → Told) → List Entry → Told
+toldFirst p tell xs = toldOr tell (first p xs)
 
+-- a field, by one of some names and its index
 unfoldable pub isOneOf : List Field → Field → Bool
 isOneOf [] f = false
 isOneOf (x ∷ xs) f = sameName x f || isOneOf xs f
 
+unfoldable pub isAmong : List Field → Field → ℕ → Entry → Bool
+isAmong names f k x = isOneOf names f && isField f k x
+
+-- where a field lies, start and length
+abbrev pub toldPlace : Entry → Told
+toldPlace x = told-two done (x .place) (length (x .bytes))
+
+-- "the bytes its section has, or the signed bytes": the fields that are handed out as parts. Integers and critical come as values.
+abbrev pub partNames : List Field
+partNames =
+    SealInformation ∷ Vendor ∷ SealId ∷ SealName ∷ ListedCertificate ∷ ListedType ∷ ListedDigest ∷ Created ∷ Start
+    ∷ End ∷ PictureType ∷ PictureData ∷ SealCustomId ∷ SealCustomValue ∷ MakerCertificate ∷ SealAlgorithm ∷ SealSignedValue ∷ SignedPart
+    ∷ SigningTime ∷ OriginalDigest ∷ PropertyText ∷ SignedCustomId ∷ SignedCustomValue ∷ SignerCertificate ∷ SignatureAlgorithm ∷ SignatureValue ∷ Stamp ∷ []
+
 -- "in a list by index, absent past the last"
 unfoldable pub fieldAnswer : Members → Field → ℕ → List ℕ → Told
-fieldAnswer r f k w = asked (readRecord r w) λ v. toldEntry (pick (isOneOf partNames f) (first (isField f k) (fields r v)) none)
+fieldAnswer r f k w = asked (readRecord r w) λ v. toldFirst (isAmong partNames f k) toldPlace (fields r v)
 
 -- "the first equal entry in the record. For kind 1 the given bytes are compared with the certificates; for kind 2 the part is the digest."
 unfoldable pub isListed : List ℕ → Entry → Bool
-isListed given x = (sameName ListedCertificate (x .name) || sameName ListedDigest (x .name)) && same given (x .bytes)
+isListed given x = isOneOf (ListedCertificate ∷ ListedDigest ∷ []) (x .name) && same given (x .bytes)
 
 unfoldable pub matchAnswer : Members → List ℕ → List ℕ → Told
-matchAnswer r given w = asked (readRecord r w) λ v. toldEntry (first (isListed given) (fields r v))
+matchAnswer r given w = asked (readRecord r w) λ v. toldFirst (isListed given) toldPlace (fields r v)
 
 -- "Integers and critical come as values."
-abbrev integerNames : List Field
+abbrev pub integerNames : List Field
 integerNames = SealType ∷ ListKind ∷ Width ∷ Height ∷ []
 
-abbrev toldValue : Bool → Option Entry → Told
-toldValue false x = told-none absent
-toldValue true none = told-none absent
-toldValue true (some x) = gives done (value (x .bytes) ∷ [])
+abbrev pub toldValue : Entry → Told
+toldValue x = gives done (value (x .bytes) ∷ [])
 
 unfoldable pub valueAnswer : Members → Field → List ℕ → Told
-valueAnswer r f w = asked (readRecord r w) λ v. toldValue (isOneOf integerNames f) (first (isField f 0) (fields r v))
+valueAnswer r f w = asked (readRecord r w) λ v. toldFirst (isAmong integerNames f 0) toldValue (fields r v)
 
 -- the custom item that a critical belongs to
-abbrev pub ownerOf : Field → Option Field
-ownerOf f = pick (sameName SealCustomCritical f) (some SealCustomItem) (pick (sameName SignedCustomCritical f) (some SignedCustomItem) none)
-
-abbrev toldCritical : Option Field → Field → ℕ → List Entry → Told
-toldCritical none f k xs = told-none absent
-toldCritical (some g) f k xs = pick (isThere (first (isField g k) xs)) (told-one done (bit (isThere (first (isField f k) xs)))) (told-none absent)
+unfoldable pub isOwner : Field → ℕ → Entry → Bool
+isOwner f k x = (sameName SealCustomCritical f && isField SealCustomItem k x) || (sameName SignedCustomCritical f && isField SignedCustomItem k x)
 
 -- a critical that is left out is false; past the last item it is absent
+abbrev pub toldCritical : Field → ℕ → List Entry → Entry → Told
+toldCritical f k xs x = told-one done (bit (isThere (first (isField f k) xs)))
+
 unfoldable pub criticalAnswer : Members → Field → ℕ → List ℕ → Told
-criticalAnswer r f k w = asked (readRecord r w) λ v. toldCritical (ownerOf f) f k (fields r v)
-
-abbrev listNames : List Field
-listNames = CertificateList ∷ SealCustomData ∷ SignedCustomData ∷ []
-
-abbrev toldCount : Bool → Option Entry → Told
-toldCount false x = told-none absent
-toldCount true none = told-none absent
-toldCount true (some x) = told-one done (x .items)
+criticalAnswer r f k w = asked (readRecord r w) λ v. toldFirst (isOwner f k) (toldCritical f k (fields r v)) (fields r v)
 
 -- "Absent and present-with-no-items are different field values."
+abbrev pub listNames : List Field
+listNames = CertificateList ∷ SealCustomData ∷ SignedCustomData ∷ []
+
+abbrev pub toldCount : Entry → Told
+toldCount x = told-one done (x .items)
+
 unfoldable pub countAnswer : Members → Field → List ℕ → Told
-countAnswer r f w = asked (readRecord r w) λ v. toldCount (isOneOf listNames f) (first (isField f 0) (fields r v))
+countAnswer r f w = asked (readRecord r w) λ v. toldFirst (isAmong listNames f 0) toldCount (fields r v)
 
 -- ---- signed bytes
 
@@ -153,10 +159,10 @@ toldPart (There a n) = told-two done a n
 toldPart NoPart = told-none absent
 toldPart (PartRefused n p) = refusal n p
 
-abbrev pub toldWhole : Whole → Told
-toldWhole (Value z) = gives done (z ∷ [])
-toldWhole NoWhole = told-none absent
-toldWhole (WholeRefused n p) = refusal n p
+abbrev pub toldNumber : Number → Told
+toldNumber (Value z) = gives done (z ∷ [])
+toldNumber NoNumber = told-none absent
+toldNumber (NumberRefused n p) = refusal n p
 
 abbrev pub toldIs : Critical → Told
 toldIs (Is t) = told-one done (bit t)

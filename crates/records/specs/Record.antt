@@ -1,7 +1,7 @@
 -- The layouts of document 01, "Layout (000, 6.1 and 7.1)", line by line; the parts of a structure stand above it. Assumes nothing.
 use mathlib.Core.Bool.{Bool, true, false}
 use Rattle.terms.specs.declared.Field.{Field}
-use Rattle.terms.specs.declared.Field.the-variants.{SealInformation, Header, Vendor, SealId, Property, SealType, SealName, ListKind, CertificateList, ListedCertificate, ListedEntry, ListedName, ListedDigest, Created, Start, End, Picture, PictureType, PictureData, Width, Height, SealCustomData, SealCustomItem, SealCustomId, SealCustomCritical, SealCustomValue, MakerCertificate, SealAlgorithm, SealSignedValue, SignedPart, Seal, SigningTime, OriginalDigest, PropertyText, SignedCustomData, SignedCustomItem, SignedCustomId, SignedCustomCritical, SignedCustomValue, SignerCertificate, SignatureAlgorithm, SignatureValue, Stamp}
+use Rattle.terms.specs.declared.Field.the-variants.{SealInformation, Header, Vendor, SealId, Property, SealType, SealName, ListKind, CertificateList, ListedCertificate, ListedEntry, ListedType, ListedDigest, Created, Start, End, Picture, PictureType, PictureData, Width, Height, SealCustomData, SealCustomItem, SealCustomId, SealCustomCritical, SealCustomValue, MakerCertificate, SealAlgorithm, SealSignedValue, SignedPart, Seal, SigningTime, OriginalDigest, PropertyText, SignedCustomData, SignedCustomItem, SignedCustomId, SignedCustomCritical, SignedCustomValue, SignerCertificate, SignatureAlgorithm, SignatureValue, Stamp}
 use Rattle.terms.specs.Numbers.{most-items}
 use Rattle.contents.specs.Content.{Leaf}
 use Rattle.contents.specs.Integer.{any, isKind, saysKind1, isMillimetres}
@@ -43,7 +43,7 @@ certificates = list sequence one-or-more most-items ListedCertificate (leaf (oct
 
 -- "Kind 2: each a SEQUENCE of a PrintableString and a digest, OCTET STRING."
 abbrev pub digests : Item
-digests = list sequence one-or-more most-items ListedEntry (node sequence (field ListedName (printableString may-be-empty) ▸ field ListedDigest (octetString needs-a-byte) ▸ end))
+digests = list sequence one-or-more most-items ListedEntry (node sequence (field ListedType (printableString may-be-empty) ▸ field ListedDigest (octetString needs-a-byte) ▸ end))
 
 -- "Property, SEQUENCE: type, INTEGER; name, UTF8String; list kind, INTEGER 1 or 2; certificate list; created, start and end, GeneralizedTime."
 -- "The kind already read decides."

@@ -6,7 +6,7 @@ pub enum Part {
 }
 
 // An integer of a record.
-pub enum Whole {
+pub enum Number {
     Value(i64),
     Absent,
     Refused(u8, usize),

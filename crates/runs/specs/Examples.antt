@@ -10,7 +10,7 @@ use Rattle.terms.specs.Laws.Table.{Row, asks, answers, agreed}
 use Rattle.records.specs.Record.{seal, signature}
 use Rattle.records.specs.Samples.{recordS, recordD}
 use Rattle.records.specs.Examples.{evaluate, sealS}
-use Rattle.runs.specs.Run.{andThen, onward, runFrom, readRun, runAnswer, Reader, made, hereIn, hereAt, oneMore, stepAfter, stepAnswer, handedOut}
+use Rattle.runs.specs.Run.{andThen, onward, runFrom, readRun, runAnswer, Reader, made, hereIn, hereAt, oneMore, stepAfter, stepAnswer, handedRecord}
 use Rattle.runs.specs.declared.Stepped.the-variants.{Record, End, Refused}
 
 evaluateRun : Unit {0}
@@ -122,5 +122,5 @@ unfolding evaluateRun
 reader-steps = agreed (steps ++ elsewhere) tt
 
 -- the part handed out: the record, else "empty, at the run's start" (03, 37)
-handings : handedOut (Record 165 165) ∷ handedOut End ∷ handedOut (Refused other-tag 165 1) ∷ [] ≡ (165, 165) ∷ (0, 0) ∷ (0, 0) ∷ []
+handings : handedRecord (Record 165 165) ∷ handedRecord End ∷ handedRecord (Refused other-tag 165 1) ∷ [] ≡ (165, 165) ∷ (0, 0) ∷ (0, 0) ∷ []
 handings = refl

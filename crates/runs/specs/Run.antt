@@ -40,7 +40,7 @@ onward (fault n p) k = stopped [] n p
 unfoldable pub runFrom : ℕ → (r : Members) → List ℕ → ℕ → Ran (Values r)
 runFrom zero r w b = whole []
 runFrom (suc k) r [] b = whole []
-runFrom (suc k) r (x ∷ w) b = onward (recordAt largest-record r (x ∷ w) b) λ a. andThen (a .0) (runFrom k r (a .1) (a .2))
+runFrom (suc k) r (x ∷ w) b = onward (recordAt largest-record r (x ∷ w) b) λ a. andThen (a .value) (runFrom k r (a .rest) (a .after))
 
 -- "No bytes are a run of no records." "a record's end is no fault 5"
 unfoldable pub readRun : (r : Members) → List ℕ → Ran (Values r)
@@ -93,7 +93,7 @@ oneMore n = pick (ltb n top) (n + 1) n
 
 -- "at the end, or at a fault, it stays and repeats that answer"
 abbrev pub afterHere : {A : Type 0} → Here A → Reader → Reader
-afterHere (taken a) x = record { position = a .2; handed = oneMore (x .handed) }
+afterHere (taken a) x = record { position = a .after; handed = oneMore (x .handed) }
 afterHere ended x = x
 afterHere (faulty n p) x = x
 
@@ -101,7 +101,7 @@ unfoldable pub stepAfter : (r : Members) → List ℕ → Reader → Reader
 stepAfter r s x = afterHere (hereAt r s (x .position)) x
 
 abbrev pub toldHere : {A : Type 0} → Here A → Reader → Told
-toldHere (taken a) x = told-two done (x .position) (a .2 - x .position)
+toldHere (taken a) x = told-two done (x .position) (a .after - x .position)
 toldHere ended x = told-none run-end
 toldHere (faulty n p) x = refusal-after n p (x .handed)
 
@@ -109,10 +109,10 @@ unfoldable pub stepAnswer : (r : Members) → List ℕ → Reader → Told
 stepAnswer r s x = toldHere (hereAt r s (x .position)) x
 
 -- "empty, at the run's start" (03, 37): start and length of what a step hands out
-abbrev pub handedOut : Stepped → ℕ × ℕ
-handedOut (Record a n) = (a, n)
-handedOut End = (0, 0)
-handedOut (StepRefused n p k) = (0, 0)
+abbrev pub handedRecord : Stepped → ℕ × ℕ
+handedRecord (Record a n) = (a, n)
+handedRecord End = (0, 0)
+handedRecord (StepRefused n p k) = (0, 0)
 
 -- ---- what the code's answers say in the paper's terms
 

@@ -1,4 +1,6 @@
 -- What the names of the code's table stand for: forms, shapes, kinds and members as the layouts of `records`. Assumes nothing.
+use Prim.Native.Nat.{ℕ}
+use mathlib.Core.Bool.{Bool}
 use mathlib.Core.List.{List, [], _∷_}
 use Rattle.terms.specs.declared.Field.{Field}
 use Rattle.terms.specs.Numbers.{most-items}
@@ -18,6 +20,8 @@ use Rattle.tables.specs.declared.Shape.{Shape}
 use Rattle.tables.specs.declared.Shape.the-variants as shape
 use Rattle.tables.specs.declared.Kind.{Kind}
 use Rattle.tables.specs.declared.Kind.the-variants as kind
+use Rattle.tables.specs.declared.Content.{Content}
+use Rattle.tables.specs.declared.Content.the-variants as content
 use Rattle.tables.specs.declared.Member.{Member}
 use Rattle.tables.specs.declared.Member.the-variants as member
 
@@ -81,9 +85,13 @@ itemOf x (kind.Node t) = node (tagByte t) (inner (layoutOf x))
 itemOf x (kind.List t e f y) = list (tagByte t) e most-items f (layoutOf y)
 itemOf x (kind.Wrap t y) = wrap (tagByte t) (layoutOf y)
 
--- the list kind, and the list that it decides on
-abbrev pub kindsOf : Field → Field → Shape → Shape → Part
-kindsOf f g x y = choose f (leafOf form.ListKind) saysKind1 g (layoutOf x) (layoutOf y)
+-- whether a content is the one that is named
+abbrev pub says : Content → List ℕ → Bool
+says content.Kind1 = saysKind1
+
+-- a primitive item, and the item that its content decides on
+abbrev pub choiceOf : Field → Form → Content → Field → Shape → Shape → Part
+choiceOf f l c g x y = choose f (leafOf l) (says c) g (layoutOf x) (layoutOf y)
 
 -- a row, member by member
 abbrev pub membersOf : List Member → Members
@@ -94,4 +102,4 @@ membersOf (member.Leaf f l ∷ ms) = one f (leaf (leafOf l)) ▸ membersOf ms
 membersOf (member.Part f x ∷ ms) = one f (layoutOf x) ▸ membersOf ms
 membersOf (member.Maybe f x ∷ ms) = maybe f (layoutOf x) ▸ membersOf ms
 membersOf (member.Flag f ∷ ms) = flag f ▸ membersOf ms
-membersOf (member.Kinds f g x y ∷ ms) = kindsOf f g x y ▸ membersOf ms
+membersOf (member.Choice f l c g x y ∷ ms) = choiceOf f l c g x y ▸ membersOf ms

@@ -69,7 +69,13 @@ pub enum Kind {
     Wrap(Tag, Shape),
 }
 
-// What stands next in a row; `Blank` fills it up. `Kinds`: the list kind, which decides between two items of one name.
+// A content that decides between two items: of the list kind, 1.
+pub enum Content {
+    Kind1,
+}
+
+// What stands next in a row; `Blank` fills it up. `Choice`: a primitive item, and of two items of one name the first where its content
+// is the one that is given, else the second.
 pub enum Member {
     Blank,
     Known(Word),
@@ -77,7 +83,14 @@ pub enum Member {
     Part(Field, Shape),
     Maybe(Field, Shape),
     Flag(Field),
-    Kinds(Field, Field, Shape, Shape),
+    Choice {
+        by: Field,
+        form: Form,
+        content: Content,
+        name: Field,
+        first: Shape,
+        second: Shape,
+    },
 }
 
 // The tag of a primitive item.
@@ -258,12 +271,14 @@ fn property() -> [Member; MEMBERS]
     [
         Member::Leaf(Field::SealType, Form::Integer),
         Member::Leaf(Field::SealName, Form::AnyUtf8),
-        Member::Kinds(
-            Field::ListKind,
-            Field::CertificateList,
-            Shape::Certificates,
-            Shape::Digests,
-        ),
+        Member::Choice {
+            by: Field::ListKind,
+            form: Form::ListKind,
+            content: Content::Kind1,
+            name: Field::CertificateList,
+            first: Shape::Certificates,
+            second: Shape::Digests,
+        },
         Member::Leaf(Field::Created, Form::Time),
         Member::Leaf(Field::Start, Form::Time),
         Member::Leaf(Field::End, Form::Time),
@@ -275,7 +290,7 @@ fn digest() -> [Member; MEMBERS]
     ensures { λ r. ⌜ inner (layoutOf Shape.Digest) ≡ membersOf r ⌝ }
 {
     [
-        Member::Leaf(Field::ListedName, Form::AnyPrintable),
+        Member::Leaf(Field::ListedType, Form::AnyPrintable),
         Member::Leaf(Field::ListedDigest, Form::Octets),
         Member::Blank,
         Member::Blank,

@@ -13,8 +13,13 @@ pub data Res (A : Type 0) : Type 0 where
   fault : ℕ → ℕ → Res A
 
 -- an item read at the start of a window: its value, what stands after it, and the offset of that
-abbrev pub Got : Type 0 → Type 0
-Got A = A × List ℕ × ℕ
+pub record Got (A : Type 0) : Type 0 where
+  pub value : A
+  pub rest : List ℕ
+  pub after : ℕ
+
+abbrev pub got : {A : Type 0} → A → List ℕ → ℕ → Got A
+got v w b = record { value = v; rest = w; after = b }
 
 -- one of two, by a test
 unfoldable pub pick {ℓ} : {A : Type ℓ} → Bool → A → A → A

@@ -12,7 +12,7 @@ pub enum Field {
     CertificateList,
     ListedCertificate,
     ListedEntry,
-    ListedName,
+    ListedType,
     ListedDigest,
     Created,
     Start,

@@ -8,7 +8,7 @@ use Rattle.contents.specs.Text.{Character, textFrom, isText, ia5, printable, ut
 use Rattle.texts.specs.declared.Alphabet.{Alphabet}
 use Rattle.texts.specs.declared.Alphabet.the-variants.{Ia5, Printable, Utf8}
 use Rattle.texts.specs.declared.Rest.{Rest}
-use Rattle.texts.specs.declared.Rest.the-variants.{Whole, Due, Never}
+use Rattle.texts.specs.declared.Rest.the-variants.{Complete, Due, Never}
 
 abbrev pub charactersOf : Alphabet → List Character
 charactersOf Ia5 = ia5
@@ -17,7 +17,7 @@ charactersOf Utf8 = utf8
 
 -- whether bytes go on as is to come, to the end of a text
 abbrev pub textAfter : List Character → Rest → List ℕ → Bool
-textAfter alphabet Whole c = isText alphabet c
+textAfter alphabet Complete c = isText alphabet c
 textAfter alphabet (Due low high tails) c = textFrom alphabet ((low, high) ∷ replicate tails (0x80, 0xBF)) c
 textAfter alphabet Never c = false
 

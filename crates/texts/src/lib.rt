@@ -10,7 +10,7 @@ ghost use Rattle.contents.specs.Rules.{octetsRule, booleanRule, bitsRule, strin
 ghost use Rattle.contents.specs.Content.{fine, ask as asked};
 ghost use Rattle.contents.specs.Leaves.{headerName, knownRule};
 ghost use Rattle.contents.specs.Scan.{checked, checkedAt};
-ghost use Rattle.texts.specs.declared.Rest.the-variants.{Whole, Due};
+ghost use Rattle.texts.specs.declared.Rest.the-variants.{Complete, Due};
 ghost use Rattle.texts.specs.Text.{charactersOf, Steps};
 
 // The paper's numbers of the refusals that these rules give.
@@ -41,7 +41,7 @@ enum Alphabet {
 // What is to come after some bytes of a text: a new character; a byte from one number to another and so many tails (80 to BF) after it;
 // or nothing, as they are no text.
 enum Rest {
-    Whole,
+    Complete,
     Due(u8, u8, u8),
     Never,
 }
@@ -142,38 +142,38 @@ pub fn identifier(s: &[u8], at: usize, a: usize, z: usize) -> Checked
 
 // What is to come after the first byte of a character of an IA5String.
 fn ia5_rest(b: u8) -> Rest
-    ensures { λ r. ⌜ Steps ia5Characters Whole b r ⌝ }
+    ensures { λ r. ⌜ Steps ia5Characters Complete b r ⌝ }
 {
     if b < 0x80 {
-        return Rest::Whole;
+        return Rest::Complete;
     }
     Rest::Never
 }
 
 // What is to come after the first byte of a character of a PrintableString: a letter, a digit, a space, or one of ' ( ) + , - . / : = ?
 fn printable_rest(b: u8) -> Rest
-    ensures { λ r. ⌜ Steps printableCharacters Whole b r ⌝ }
+    ensures { λ r. ⌜ Steps printableCharacters Complete b r ⌝ }
 {
     match b {
-        b'A'..=b'Z' => Rest::Whole,
-        b'a'..=b'z' => Rest::Whole,
-        b'0'..=b'9' => Rest::Whole,
-        b' ' => Rest::Whole,
-        b'\''..=b')' => Rest::Whole,
-        b'+'..=b'/' => Rest::Whole,
-        b':' => Rest::Whole,
-        b'=' => Rest::Whole,
-        b'?' => Rest::Whole,
+        b'A'..=b'Z' => Rest::Complete,
+        b'a'..=b'z' => Rest::Complete,
+        b'0'..=b'9' => Rest::Complete,
+        b' ' => Rest::Complete,
+        b'\''..=b')' => Rest::Complete,
+        b'+'..=b'/' => Rest::Complete,
+        b':' => Rest::Complete,
+        b'=' => Rest::Complete,
+        b'?' => Rest::Complete,
         _ => Rest::Never,
     }
 }
 
 // What is to come after the first byte of a character of UTF-8, by the rows of RFC 3629.
 fn utf8_rest(b: u8) -> Rest
-    ensures { λ r. ⌜ Steps utf8Characters Whole b r ⌝ }
+    ensures { λ r. ⌜ Steps utf8Characters Complete b r ⌝ }
 {
     match b {
-        0x00..=0x7F => Rest::Whole,
+        0x00..=0x7F => Rest::Complete,
         0xC2..=0xDF => Rest::Due(0x80, 0xBF, 0),
         0xE0 => Rest::Due(0xA0, 0xBF, 1),
         0xE1..=0xEC => Rest::Due(0x80, 0xBF, 1),
@@ -188,7 +188,7 @@ fn utf8_rest(b: u8) -> Rest
 
 // What is to come after the first byte of a character of an alphabet.
 fn first(alphabet: Alphabet, b: u8) -> Rest
-    ensures { λ r. ⌜ Steps (charactersOf alphabet) Whole b r ⌝ }
+    ensures { λ r. ⌜ Steps (charactersOf alphabet) Complete b r ⌝ }
 {
     match alphabet {
         Alphabet::Ia5 => ia5_rest(b),
@@ -208,7 +208,7 @@ fn due(b: u8, low: u8, high: u8, tails: u8) -> Rest
         return Rest::Never;
     }
     if tails == 0 {
-        return Rest::Whole;
+        return Rest::Complete;
     }
     Rest::Due(0x80, 0xBF, tails - 1)
 }
@@ -218,7 +218,7 @@ fn next(alphabet: Alphabet, rest: Rest, b: u8) -> Rest
     ensures { λ r. ⌜ Steps (charactersOf alphabet) rest b r ⌝ }
 {
     match rest {
-        Rest::Whole => first(alphabet, b),
+        Rest::Complete => first(alphabet, b),
         Rest::Due(low, high, tails) => due(b, low, high, tails),
         Rest::Never => Rest::Never,
     }
@@ -228,18 +228,18 @@ fn next(alphabet: Alphabet, rest: Rest, b: u8) -> Rest
 fn is_text(w: &[u8], alphabet: Alphabet) -> bool
     ensures { λ r. ⌜ r ≡ isText (charactersOf alphabet) (now (w .entry)) ⌝ }
 {
-    let mut rest = Rest::Whole;
+    let mut rest = Rest::Complete;
     let mut i = 0;
     while i < w.len() {
         rest = next(alphabet, rest, w[i]);
         match rest {
-            Rest::Whole => i += 1,
+            Rest::Complete => i += 1,
             Rest::Due(_, _, _) => i += 1,
             Rest::Never => return false,
         }
     }
     match rest {
-        Rest::Whole => true,
+        Rest::Complete => true,
         Rest::Due(_, _, _) => false,
         Rest::Never => false,
     }

@@ -45,7 +45,7 @@ const TIME_BYTES: usize = 15;
 const MONTHS: [u64; 12] = [31, 28, 31, 30, 31, 30, 31, 31, 30, 31, 30, 31];
 
 // A number that was read, or none.
-enum Reading {
+enum Parsed {
     Number(u64),
     Nothing,
 }
@@ -91,20 +91,20 @@ pub fn month_length(year: u64, month: u64) -> u64
 }
 
 // The digit at a position.
-fn digit_at(w: &[u8], i: usize) -> Reading
+fn digit_at(w: &[u8], i: usize) -> Parsed
     ensures { λ r. ⌜ (r ≡ firstDigit (drop i (now (w .entry)))) × AtMost 9 r ⌝ }
 {
     if w.len() <= i {
-        return Reading::Nothing;
+        return Parsed::Nothing;
     }
     let b = w[i];
     if b < b'0' {
-        return Reading::Nothing;
+        return Parsed::Nothing;
     }
     if b'9' < b {
-        return Reading::Nothing;
+        return Parsed::Nothing;
     }
-    Reading::Number((b - b'0') as u64)
+    Parsed::Number((b - b'0') as u64)
 }
 
 // A number from a least to a most number.
@@ -118,23 +118,23 @@ fn is_within(low: u64, high: u64, n: u64) -> bool
 }
 
 // One part of a time: the number of the `k` digits at `i`, where it lies from `low` to `high`.
-fn part_at(w: &[u8], i: usize, k: usize, low: u64, high: u64) -> Reading
+fn part_at(w: &[u8], i: usize, k: usize, low: u64, high: u64) -> Parsed
     requires { ⌜ (i ≤ 12) × (k ≤ 4) × (low < 10 ^ k) ⌝ }
     ensures { λ r. ⌜ (r ≡ partAt k low high i (now (w .entry))) × AtMost high r ⌝ }
 {
     let mut n: u64 = 0;
     let mut j = 0;
     while j < k {
-        let Reading::Number(x) = digit_at(w, i + j) else {
-            return Reading::Nothing;
+        let Parsed::Number(x) = digit_at(w, i + j) else {
+            return Parsed::Nothing;
         };
         n = n * 10 + x;
         j += 1;
     }
     if !is_within(low, high, n) {
-        return Reading::Nothing;
+        return Parsed::Nothing;
     }
-    Reading::Number(n)
+    Parsed::Number(n)
 }
 
 // Three parts as one number, the last two with two digits each.
@@ -146,19 +146,19 @@ fn joined(a: u64, b: u64, c: u64) -> u64
 }
 
 // A time's date: year, month and day as one number.
-fn date_in(w: &[u8]) -> Reading
+fn date_in(w: &[u8]) -> Parsed
     ensures { λ r. ⌜ (r ≡ dateIn (now (w .entry))) × AtMost 99999999 r ⌝ }
 {
-    let Reading::Number(year) = part_at(w, YEAR, 4, 0, 9999) else {
-        return Reading::Nothing;
+    let Parsed::Number(year) = part_at(w, YEAR, 4, 0, 9999) else {
+        return Parsed::Nothing;
     };
-    let Reading::Number(month) = part_at(w, MONTH, 2, 1, LAST_MONTH) else {
-        return Reading::Nothing;
+    let Parsed::Number(month) = part_at(w, MONTH, 2, 1, LAST_MONTH) else {
+        return Parsed::Nothing;
     };
-    let Reading::Number(day) = part_at(w, DAY, 2, 1, month_length(year, month)) else {
-        return Reading::Nothing;
+    let Parsed::Number(day) = part_at(w, DAY, 2, 1, month_length(year, month)) else {
+        return Parsed::Nothing;
     };
-    Reading::Number(joined(year, month, day))
+    Parsed::Number(joined(year, month, day))
 }
 
 // The closing Z.
@@ -172,35 +172,35 @@ fn closes(w: &[u8]) -> bool
 }
 
 // What follows the date: hour, minute and second as one number, and the Z.
-fn clock_in(w: &[u8]) -> Reading
+fn clock_in(w: &[u8]) -> Parsed
     ensures { λ r. ⌜ (r ≡ clockIn (now (w .entry))) × AtMost 99999999 r ⌝ }
 {
-    let Reading::Number(hour) = part_at(w, HOUR, 2, 0, LAST_HOUR) else {
-        return Reading::Nothing;
+    let Parsed::Number(hour) = part_at(w, HOUR, 2, 0, LAST_HOUR) else {
+        return Parsed::Nothing;
     };
-    let Reading::Number(minute) = part_at(w, MINUTE, 2, 0, LAST_MINUTE) else {
-        return Reading::Nothing;
+    let Parsed::Number(minute) = part_at(w, MINUTE, 2, 0, LAST_MINUTE) else {
+        return Parsed::Nothing;
     };
-    let Reading::Number(second) = part_at(w, SECOND, 2, 0, LAST_SECOND) else {
-        return Reading::Nothing;
+    let Parsed::Number(second) = part_at(w, SECOND, 2, 0, LAST_SECOND) else {
+        return Parsed::Nothing;
     };
     if !closes(w) {
-        return Reading::Nothing;
+        return Parsed::Nothing;
     }
-    Reading::Number(joined(hour, minute, second))
+    Parsed::Number(joined(hour, minute, second))
 }
 
 // The number of the time that a window begins with.
-fn time_in(w: &[u8]) -> Reading
+fn time_in(w: &[u8]) -> Parsed
     ensures { λ r. ⌜ r ≡ told (timeFrom year-digits (now (w .entry)) 0) ⌝ }
 {
-    let Reading::Number(date) = date_in(w) else {
-        return Reading::Nothing;
+    let Parsed::Number(date) = date_in(w) else {
+        return Parsed::Nothing;
     };
-    let Reading::Number(clock) = clock_in(w) else {
-        return Reading::Nothing;
+    let Parsed::Number(clock) = clock_in(w) else {
+        return Parsed::Nothing;
     };
-    Reading::Number(date * 1000000 + clock)
+    Parsed::Number(date * 1000000 + clock)
 }
 
 // Whether the content from `a` to `z` is a time, in the item whose tag stands at `at`.
@@ -211,7 +211,7 @@ pub fn time(s: &[u8], at: usize, a: usize, z: usize) -> Checked
     if TIME_BYTES < w.len() {
         return Checked::Wrong(BAD_TIME, at);
     }
-    let Reading::Number(_) = time_in(w) else {
+    let Parsed::Number(_) = time_in(w) else {
         return Checked::Wrong(BAD_TIME, at);
     };
     Checked::Fine
@@ -223,8 +223,8 @@ pub fn moment(s: &[u8], a: usize, z: usize) -> u64
 {
     let t = time_in(windows::window(s, a, z));
     match t {
-        Reading::Number(n) => n,
-        Reading::Nothing => 0,
+        Parsed::Number(n) => n,
+        Parsed::Nothing => 0,
     }
 }
 

@@ -45,10 +45,10 @@ stampGood Bad = false
 stampGood (Good t) = true
 
 -- and something fails at that time
-unfoldable pub stampTime : Stamping → (Moment → Bool) → Bool
-stampTime Unchecked f = false
-stampTime Bad f = false
-stampTime (Good t) f = f (momentAt t)
+unfoldable pub atStamp : Stamping → (Moment → Bool) → Bool
+atStamp Unchecked f = false
+atStamp Bad f = false
+atStamp (Good t) f = f (momentAt t)
 
 -- ---- their times
 

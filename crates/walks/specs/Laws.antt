@@ -10,7 +10,7 @@ use lib.Seq.{slice, drop-cons, drop-nil}
 use lib.Dec.{ltb}
 use borrow.Author.Tests.{lt-ltb, le-ltb}
 use Rattle.terms.specs.declared.Field.{Field}
-use Rattle.terms.specs.Numbers.{bad-integer, no-item, too-many-items, largest-record}
+use Rattle.terms.specs.Numbers.{no-item, too-many-items, largest-record}
 use Rattle.terms.specs.Answer.{Res, good, fault, pick}
 use Rattle.heads.specs.Head.{Cut, head, tlv, before}
 use Rattle.heads.specs.Laws.Head.{head-back, length-tlv}
@@ -22,15 +22,13 @@ use Rattle.heads.specs.declared.Step.the-variants.{Next, Refused}
 use Rattle.items.specs.declared.Tag.{Tag}
 use Rattle.items.specs.declared.Tag.the-variants as tag
 use Rattle.items.specs.Scan.{tagByte}
-use Rattle.contents.specs.Content.{Check, fine, wrong, ask}
-use Rattle.contents.specs.Integer.{wellFormed, isKind, saysKind1}
-use Rattle.contents.specs.Rules.{integerRule}
+use Rattle.contents.specs.Content.{Check, fine, wrong, Leaf}
 use Rattle.contents.specs.Leaves.{knownRule}
-use Rattle.integers.specs.Number.{isOne}
 use Rattle.layouts.specs.Layout.{Item, leaf, node, list, wrap, Members, end, _▸_, Member as Part, known, one, maybe, flag, choose, tagOf}
 use Rattle.layouts.specs.Scan.{thenSeen, thenStep, thenJudge, judgeAt, ruleAt, leafAt, beginsAt, closeAt, scanMany, scan, recordScan}
 use Rattle.layouts.specs.Whole.{sequence}
 use Rattle.leaves.specs.Leaf.{pastOf}
+use Rattle.tables.specs.declared.Content.{Content}
 use Rattle.tables.specs.declared.Form.{Form}
 use Rattle.tables.specs.declared.Form.the-variants as form
 use Rattle.tables.specs.declared.Word.{Word}
@@ -39,11 +37,11 @@ use Rattle.tables.specs.declared.Kind.{Kind}
 use Rattle.tables.specs.declared.Kind.the-variants as kind
 use Rattle.tables.specs.declared.Member.{Member}
 use Rattle.tables.specs.declared.Member.the-variants as member
-use Rattle.tables.specs.Table.{leafOf, knownOf, inner, layoutOf, itemOf, membersOf}
+use Rattle.tables.specs.Table.{leafOf, knownOf, inner, layoutOf, itemOf, membersOf, says}
 use Rattle.layouts.specs.declared.Tally.{Tally}
 use Rattle.layouts.specs.declared.Tally.the-variants.{Items, Refused as Uncounted}
 use Rattle.layouts.specs.Marks.{noted, afterSeen, afterStep, afterTally, thenTally, tally, manyMarks, leafMarks, marks, marksAll, recordMarks}
-use Rattle.walks.specs.Walk.{listHeadAt, itemWalk, rowWalk, memberWalk, listWalk, recordWalk}
+use Rattle.walks.specs.Walk.{listHeadAt, leafWalk, itemWalk, rowWalk, memberWalk, listWalk, recordWalk}
 
 -- ---- a number that falls from an item to what stands in it
 
@@ -72,7 +70,7 @@ sizeOf (member.Leaf f l) = 0
 sizeOf (member.Part f x) = suc (size (layoutOf x))
 sizeOf (member.Maybe f x) = suc (size (layoutOf x))
 sizeOf (member.Flag f) = 0
-sizeOf (member.Kinds f g x y) = suc (size (layoutOf x) + size (layoutOf y))
+sizeOf (member.Choice f l c g x y) = suc (size (layoutOf x) + size (layoutOf y))
 
 pub below : (a b t : ℕ) → b ≡ t → a < b → a < t
 below a b t h k = omega arith
@@ -114,9 +112,9 @@ head-inside t s p e a z h = go (head t (slice p e s) p) refl h
         let b = head-back t (slice p e s) p c o in
         let n : length (slice p e s) ≡ length (take e s) - p = length-drop p (take e s) in
         let m = take-short e s in
-        let k : length (slice p e s) ≡ before (length (c .0)) + length (c .0) + length (c .1) =
-        ap length (b .0) ∙ length-append (tlv t (c .0)) (c .1) ∙ ap (λ (x : ℕ). x + length (c .1)) (length-tlv t (c .0)) in
-        let q : c .2 ≡ a = cc in
+        let k : length (slice p e s) ≡ before (length (c .content)) + length (c .content) + length (c .rest) =
+        ap length (b .0) ∙ length-append (tlv t (c .content)) (c .rest) ∙ ap (λ (x : ℕ). x + length (c .rest)) (length-tlv t (c .content)) in
+        let q : c .start ≡ a = cc in
         let r = b .1 in
         omega arith
     go (fault n q) o g = let y : _≡_ {A = ℕ} 0 1 = cc in let f : ⊥ = omega arith in absurd f
@@ -190,21 +188,26 @@ tables {A} h = ap (λ (z : A × List ℕ). z .1) h
 
 module _ (f : Field) (n : ℕ) (s : List ℕ) (p e : ℕ) (d : List ℕ) where
   module _ (l : Form) (h : Seen) (j : h ≡ leafAt (leafOf l) s p e) where
-    pub leaf-refused : (m q : ℕ) (y : Step) → h ≡ Bad m q → y ≡ pastOf h → (y, d) ≡ itemWalk (leaf (leafOf l)) f n s p e d
-    unfolding itemWalk scan marks leafMarks
-    leaf-refused m q y b g = both (rw (← j) (g ∙ passed h)) (rw (← j, b))
+    pub leaf-refused : (m q : ℕ) → h ≡ Bad m q → (h, d) ≡ leafWalk (leafOf l) f n s p e d
+    unfolding leafWalk leafMarks
+    leaf-refused m q b = both j (rw (← j, b))
 
-    pub leaf-taken : (a z i : ℕ) (d′ : List ℕ) → h ≡ At a z → i ≡ leafOf l .hidden → d′ ≡ noted f n (a + i) z 0 d → (Next z, d′) ≡ itemWalk (leaf (leafOf l)) f n s p e d
-    unfolding itemWalk scan marks leafMarks
-    leaf-taken a z i d′ b o g = both (rw (← j, b)) (rw (← j, b, ← o) g)
+    pub leaf-taken : (a z i : ℕ) (d′ : List ℕ) → h ≡ At a z → i ≡ leafOf l .hidden → d′ ≡ noted f n (a + i) z 0 d → (At a z, d′) ≡ leafWalk (leafOf l) f n s p e d
+    unfolding leafWalk leafMarks
+    leaf-taken a z i d′ b o g = both (sym b ∙ j) (rw (← j, b, ← o) g)
+
+  -- a primitive item, noted, and where what follows it starts
+  leaf-past : (l : Leaf) (h : Seen) (y : Step) (d′ : List ℕ) → (h, d′) ≡ leafWalk l f n s p e d → y ≡ pastOf h → (y, d′) ≡ itemWalk (leaf l) f n s p e d
+  unfolding leafWalk itemWalk scan marks
+  leaf-past l h y d′ g o = both (o ∙ passed h ∙ ap (λ (x : Seen). thenSeen x λ a z. Next z) (answers g)) (tables g)
 
   module _ (x : Shape) (k : Kind) (l : layoutOf x ≡ itemOf x k) where
     abbrev Reads : Step → List ℕ → Type 0
     Reads y d′ = (y, d′) ≡ itemWalk (layoutOf x) f n s p e d
 
-    pub item-leaf : (c : Form) (y : Step) (d′ : List ℕ) → k ≡ kind.Leaf c → (y, d′) ≡ itemWalk (leaf (leafOf c)) f n s p e d → Reads y d′
+    pub item-leaf : (c : Form) (h : Seen) (y : Step) (d′ : List ℕ) → k ≡ kind.Leaf c → (h, d′) ≡ leafWalk (leafOf c) f n s p e d → y ≡ pastOf h → Reads y d′
     unfolding itemWalk
-    item-leaf c y d′ i g = rw (l, i) g
+    item-leaf c h y d′ i g o = rw (l, i) (leaf-past (leafOf c) h y d′ g o)
 
     module _ (t : Tag) (h : Seen) (j : h ≡ headAt (tagByte t) s p e) where
       module _ (i : k ≡ kind.Node t) where
@@ -264,19 +267,6 @@ wrap-less x k t u l i = let e : size (layoutOf x) ≡ suc (size (layoutOf u)) = 
 
 -- ---- a member
 
-fine-well : (c : List ℕ) → integerRule isKind c ≡ fine → wellFormed c ≡ true
-unfolding integerRule ask
-fine-well c h = go (wellFormed c) _ h
-  where
-    go : (b : Bool) (k : Check) → ask b bad-integer k ≡ fine → b ≡ true
-    go true k g = refl
-    go false k g = let y : _≡_ {A = ℕ} 0 1 = cc in let f : ⊥ = omega arith in absurd f
-
--- a kind that was taken is 1 just where its number is
-one-is : (s : List ℕ) (p e a z : ℕ) (h : Seen) → h ≡ leafAt (leafOf form.ListKind) s p e → h ≡ At a z → isOne (slice a z s) ≡ saysKind1 (slice a z s)
-unfolding isOne
-one-is s p e a z h j b = rw (fine-well (slice a z s) (rule-taken 0x02 (integerRule isKind) s p e a z (sym j ∙ b) .1))
-
 module _ (m : Member) (n : ℕ) (s : List ℕ) (p e : ℕ) (d : List ℕ) where
   abbrev ReadsPart : Step → List ℕ → Type 0
   ReadsPart y d′ = (y, d′) ≡ memberWalk m n s p e d
@@ -289,9 +279,9 @@ module _ (m : Member) (n : ℕ) (s : List ℕ) (p e : ℕ) (d : List ℕ) where
   unfolding memberWalk scan
   member-known w h y i j g = rw i (both (g ∙ passed h ∙ ap (λ (x : Seen). thenSeen x λ a z. Next z) j) refl)
 
-  pub member-leaf : (f : Field) (l : Form) (y : Step) (d′ : List ℕ) → m ≡ member.Leaf f l → (y, d′) ≡ itemWalk (leaf (leafOf l)) f n s p e d → ReadsPart y d′
+  pub member-leaf : (f : Field) (l : Form) (h : Seen) (y : Step) (d′ : List ℕ) → m ≡ member.Leaf f l → (h, d′) ≡ leafWalk (leafOf l) f n s p e d → y ≡ pastOf h → ReadsPart y d′
   unfolding memberWalk
-  member-leaf f l y d′ i g = rw i g
+  member-leaf f l h y d′ i g o = rw i (leaf-past f n s p e d (leafOf l) h y d′ g o)
 
   pub member-part : (f : Field) (x : Shape) (y : Step) (d′ : List ℕ) → m ≡ member.Part f x → (y, d′) ≡ itemWalk (layoutOf x) f n s p e d → ReadsPart y d′
   unfolding memberWalk
@@ -307,32 +297,27 @@ module _ (m : Member) (n : ℕ) (s : List ℕ) (p e : ℕ) (d : List ℕ) where
     maybe-no o = rw i (both (rw (← j, ← h, o)) (rw (← j, ← h, o)))
 
   module _ (f : Field) (b : Bool) (i : m ≡ member.Flag f) (h : b ≡ beginsAt (tagByte tag.Boolean) s p e) where
-    pub flag-yes : (y : Step) (d′ : List ℕ) → b ≡ true → (y, d′) ≡ itemWalk (leaf (leafOf form.Critical)) f n s p e d → ReadsPart y d′
-    unfolding memberWalk itemWalk scan marks pick
-    flag-yes y d′ o g = rw i (both (rw (← h, o) (answers g)) (rw (← h, o) (tables g)))
+    pub flag-yes : (x : Seen) (y : Step) (d′ : List ℕ) → b ≡ true → (x, d′) ≡ leafWalk (leafOf form.Critical) f n s p e d → y ≡ pastOf x → ReadsPart y d′
+    unfolding memberWalk leafWalk scan marks pick
+    flag-yes x y d′ o g r = rw i (both (rw (← h, o, ← answers g) (r ∙ passed x)) (rw (← h, o) (tables g)))
 
     pub flag-no : b ≡ false → ReadsPart (Next p) d
     unfolding memberWalk scan marks pick
     flag-no o = rw i (both (rw (← h, o)) (rw (← h, o)))
 
-  module _ (f g : Field) (x u : Shape) (h : Seen) (i : m ≡ member.Kinds f g x u) (j : h ≡ leafAt (leafOf form.ListKind) s p e) where
-    pub kinds-refused : (k q : ℕ) (y : Step) → h ≡ Bad k q → y ≡ pastOf h → ReadsPart y d
-    unfolding memberWalk scan marks
-    kinds-refused k q y b o = rw i (both (rw (← j, b) (o ∙ ap pastOf b)) (rw (← j, b)))
+  module _ (f : Field) (l : Form) (c : Content) (g : Field) (x u : Shape) (i : m ≡ member.Choice f l c g x u) (h : Seen) (d₁ : List ℕ) (j : (h, d₁) ≡ leafWalk (leafOf l) f n s p e d) where
+    pub choice-refused : (k q : ℕ) (y : Step) → h ≡ Bad k q → y ≡ pastOf h → ReadsPart y d₁
+    unfolding memberWalk leafWalk scan marks leafMarks
+    choice-refused k q y b o = rw i (both (rw (← answers j, b) (o ∙ ap pastOf b)) (rw (← answers j, b) (tables j ∙ rw (← answers j, b))))
 
-    module _ (a z : ℕ) (b : h ≡ At a z) (t : Bool) (o : t ≡ isOne (slice a z s)) (d₁ : List ℕ) (w : d₁ ≡ noted f n a z 0 d) where
-      -- what is noted of the kind
-      kind-marks : d₁ ≡ leafMarks (leafOf form.ListKind) f n s p e d
-      unfolding leafMarks
-      kind-marks = rw (← j, b) (w ∙ ap (λ (c : ℕ). noted f n c z 0 d) (omega arith))
+    module _ (a z : ℕ) (b : h ≡ At a z) (t : Bool) (o : t ≡ says c (slice a z s)) where
+      pub choice-first : (y : Step) (d′ : List ℕ) → t ≡ true → (y, d′) ≡ itemWalk (layoutOf x) g n s z e d₁ → ReadsPart y d′
+      unfolding memberWalk leafWalk itemWalk scan marks pick
+      choice-first y d′ v q = rw i (both (rw (← answers j, b, ← o, v) (answers q)) (rw (← tables j, ← answers j, b, ← o, v) (tables q)))
 
-      pub kinds-one : (y : Step) (d′ : List ℕ) → t ≡ true → (y, d′) ≡ itemWalk (layoutOf x) g n s z e d₁ → ReadsPart y d′
-      unfolding memberWalk itemWalk scan marks pick
-      kinds-one y d′ v q = rw i (both (rw (← j, b, ← one-is s p e a z h j b, ← o, v) (answers q)) (rw (← kind-marks, ← j, b, ← one-is s p e a z h j b, ← o, v) (tables q)))
-
-      pub kinds-two : (y : Step) (d′ : List ℕ) → t ≡ false → (y, d′) ≡ itemWalk (layoutOf u) g n s z e d₁ → ReadsPart y d′
-      unfolding memberWalk itemWalk scan marks pick
-      kinds-two y d′ v q = rw i (both (rw (← j, b, ← one-is s p e a z h j b, ← o, v) (answers q)) (rw (← kind-marks, ← j, b, ← one-is s p e a z h j b, ← o, v) (tables q)))
+      pub choice-second : (y : Step) (d′ : List ℕ) → t ≡ false → (y, d′) ≡ itemWalk (layoutOf u) g n s z e d₁ → ReadsPart y d′
+      unfolding memberWalk leafWalk itemWalk scan marks pick
+      choice-second y d′ v q = rw i (both (rw (← answers j, b, ← o, v) (answers q)) (rw (← tables j, ← answers j, b, ← o, v) (tables q)))
 
 -- what a member holds is smaller
 module _ (m : Member) where
@@ -344,13 +329,13 @@ module _ (m : Member) where
   unfolding sizeOf
   maybe-less f x i = rw i (omega arith)
 
-  pub one-less : (f g : Field) (x y : Shape) → m ≡ member.Kinds f g x y → size (layoutOf x) < sizeOf m
+  pub first-less : (f : Field) (l : Form) (c : Content) (g : Field) (x y : Shape) → m ≡ member.Choice f l c g x y → size (layoutOf x) < sizeOf m
   unfolding sizeOf
-  one-less f g x y i = rw i (omega arith)
+  first-less f l c g x y i = rw i (omega arith)
 
-  pub two-less : (f g : Field) (x y : Shape) → m ≡ member.Kinds f g x y → size (layoutOf y) < sizeOf m
+  pub second-less : (f : Field) (l : Form) (c : Content) (g : Field) (x y : Shape) → m ≡ member.Choice f l c g x y → size (layoutOf y) < sizeOf m
   unfolding sizeOf
-  two-less f g x y i = rw i (omega arith)
+  second-less f l c g x y i = rw i (omega arith)
 
 -- ---- a row
 
@@ -366,7 +351,7 @@ row-split (member.Leaf f l) ms n s p e d = refl
 row-split (member.Part f x) ms n s p e d = refl
 row-split (member.Maybe f x) ms n s p e d = refl
 row-split (member.Flag f) ms n s p e d = refl
-row-split (member.Kinds f g x y) ms n s p e d = refl
+row-split (member.Choice f l c g x y) ms n s p e d = refl
 
 size-split : (m : Member) (ms : List Member) → sizeOf m + sizes (membersOf ms) ≤ sizes (membersOf (m ∷ ms))
 unfolding size sizeOf
@@ -376,7 +361,7 @@ size-split (member.Leaf f l) ms = omega arith
 size-split (member.Part f x) ms = omega arith
 size-split (member.Maybe f x) ms = omega arith
 size-split (member.Flag f) ms = omega arith
-size-split (member.Kinds f g x y) ms = omega arith
+size-split (member.Choice f l c g x y) ms = omega arith
 
 -- the members from the k-th on
 unfoldable pub from : ℕ → List Member → Members
@@ -491,3 +476,16 @@ module _ (t : Tag) (o : Bool) (s : List ℕ) (p e : ℕ) (h : Seen) (j : h ≡ h
     pub head-some : v ≡ true → At a z ≡ listHeadAt (tagByte t) o s p e
     unfolding listHeadAt pick
     head-some q = rw (← j, b, ← w, q)
+
+-- ---- what each function's answers are found by
+
+pub ruleset item-steps = (item-leaf, node-refused, node-members, list-refused, list-bad, list-all, wrap-refused, wrap-inner, wrap-close)
+
+pub ruleset list-steps = (over, many-16, many-bad, many-end)
+
+pub ruleset member-steps = (member-blank, member-known, member-leaf, member-part, maybe-yes, maybe-no, flag-yes, flag-no, choice-refused, choice-first, choice-second)
+
+pub ruleset row-steps = (row-whole, row-refused, row-over)
+
+-- what is called is smaller
+pub ruleset smaller = (below, node-less, list-less, wrap-less, part-less, maybe-less, first-less, second-less, member-smaller)

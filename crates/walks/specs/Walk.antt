@@ -12,17 +12,21 @@ use Rattle.heads.specs.declared.Seen.{Seen}
 use Rattle.heads.specs.declared.Seen.the-variants.{Item as At, Refused as Bad}
 use Rattle.heads.specs.declared.Step.{Step}
 use Rattle.heads.specs.declared.Step.the-variants.{Next}
+use Rattle.contents.specs.Content.{Leaf}
 use Rattle.layouts.specs.Layout.{Item, leaf, Members, Member as Part, known, maybe, flag}
-use Rattle.layouts.specs.Scan.{thenJudge, scan, scans, scanPart, recordScan}
-use Rattle.layouts.specs.Marks.{tally, manyMarks, marks, marksAll, marksPart, recordMarks}
+use Rattle.layouts.specs.Scan.{thenJudge, leafAt, scan, scans, scanPart, recordScan}
+use Rattle.layouts.specs.Marks.{tally, manyMarks, leafMarks, marks, marksAll, marksPart, recordMarks}
 use Rattle.layouts.specs.declared.Tally.{Tally}
 use Rattle.tables.specs.declared.Member.{Member}
 use Rattle.tables.specs.declared.Member.the-variants as member
-use Rattle.tables.specs.Table.{leafOf, knownOf, layoutOf, kindsOf}
+use Rattle.tables.specs.Table.{leafOf, knownOf, layoutOf, choiceOf}
 
 -- the head of a list: 15 where it has no item and needs one
 unfoldable pub listHeadAt : ℕ → Bool → List ℕ → ℕ → ℕ → Seen
 listHeadAt t o s p e = thenJudge (headAt t s p e) λ a z. pick (o || ltb a z) (At a z) (Bad no-item p)
+
+unfoldable pub leafWalk : Leaf → Field → ℕ → List ℕ → ℕ → ℕ → List ℕ → Seen × List ℕ
+leafWalk l f k s p e d = (leafAt l s p e, leafMarks l f k s p e d)
 
 unfoldable pub itemWalk : Item → Field → ℕ → List ℕ → ℕ → ℕ → List ℕ → Step × List ℕ
 itemWalk i f k s p e d = (scan i s p e, marks i f k s p e d)
@@ -38,7 +42,7 @@ memberWalk (member.Leaf f l) k s p e d = itemWalk (leaf (leafOf l)) f k s p e d
 memberWalk (member.Part f x) k s p e d = itemWalk (layoutOf x) f k s p e d
 memberWalk (member.Maybe f x) k s p e d = (scanPart (maybe f (layoutOf x)) s p e, marksPart (maybe f (layoutOf x)) k s p e d)
 memberWalk (member.Flag f) k s p e d = (scanPart (flag f) s p e, marksPart (flag f) k s p e d)
-memberWalk (member.Kinds f g x y) k s p e d = (scanPart (kindsOf f g x y) s p e, marksPart (kindsOf f g x y) k s p e d)
+memberWalk (member.Choice f l c g x y) k s p e d = (scanPart (choiceOf f l c g x y) s p e, marksPart (choiceOf f l c g x y) k s p e d)
 
 -- the items of a list, of which so many stand before here
 unfoldable pub listWalk : Item → Field → ℕ → List ℕ → ℕ → ℕ → List ℕ → Tally × List ℕ

@@ -11,9 +11,8 @@ use tables::Shape;
 use terms::Field;
 ghost use mathlib.Core.Path.{_≡_};
 ghost use Rattle.items.specs.Scan.{tagByte};
-ghost use Rattle.layouts.specs.Layout.{leaf as leafItem};
 ghost use Rattle.tables.specs.Table.{leafOf, inner, layoutOf};
-ghost use Rattle.walks.specs.Walk.{listHeadAt, itemWalk, rowWalk, memberWalk, listWalk, recordWalk};
+ghost use Rattle.walks.specs.Walk.{listHeadAt, leafWalk, itemWalk, rowWalk, memberWalk, listWalk, recordWalk};
 
 // The most bytes of a record, header included.
 const LARGEST_RECORD: usize = 65535;
@@ -27,7 +26,7 @@ const NO_ITEM: u8 = 15;
 // A 65th item in a list.
 const TOO_MANY_ITEMS: u8 = 16;
 
-// A primitive item under its name, and its index in a list: where what follows it starts.
+// A primitive item under its name, and its index in a list: where its content lies, or its refusal.
 fn leaf(
     s: &[u8],
     form: Form,
@@ -36,15 +35,15 @@ fn leaf(
     at: usize,
     end: usize,
     places: &mut [usize],
-) -> Step
-    ensures { λ r. ⌜ (r, now (places .exit)) ≡ itemWalk (leafItem (leafOf form)) name index (now (s .entry)) at end (now (places .entry)) ⌝ }
+) -> Seen
+    ensures { λ r. ⌜ (r, now (places .exit)) ≡ leafWalk (leafOf form) name index (now (s .entry)) at end (now (places .entry)) ⌝ }
 {
     let h = leaves::leaf(s, form, at, end);
     let Seen::Item(a, z) = h else {
-        return leaves::past(h);
+        return h;
     };
     places::note(places, name, index, a + tables::hidden_of(form), z, 0);
-    Step::Next(z)
+    Seen::Item(a, z)
 }
 
 // The head of a list: 15 if it has no item and needs one.
@@ -75,7 +74,7 @@ fn item(
 {
     let k = tables::kind_of(x);
     match k {
-        Kind::Leaf(form) => leaf(s, form, name, index, at, end, places),
+        Kind::Leaf(form) => leaves::past(leaf(s, form, name, index, at, end, places)),
         Kind::Node(t) => {
             let h = items::head(s, t, at, end);
             let Seen::Item(a, z) = h else {
@@ -137,7 +136,7 @@ fn member(s: &[u8], m: Member, index: usize, at: usize, end: usize, places: &mut
     match m {
         Member::Blank => Step::Next(at),
         Member::Known(w) => leaves::past(leaves::known(s, w, at, end)),
-        Member::Leaf(name, form) => leaf(s, form, name, index, at, end, places),
+        Member::Leaf(name, form) => leaves::past(leaf(s, form, name, index, at, end, places)),
         Member::Part(name, x) => item(s, x, name, index, at, end, places),
         Member::Maybe(name, x) => {
             if leaves::begins(s, tables::tag_of(x), at, end) {
@@ -147,20 +146,26 @@ fn member(s: &[u8], m: Member, index: usize, at: usize, end: usize, places: &mut
         }
         Member::Flag(name) => {
             if leaves::begins(s, Tag::Boolean, at, end) {
-                return leaf(s, Form::Critical, name, index, at, end, places);
+                return leaves::past(leaf(s, Form::Critical, name, index, at, end, places));
             }
             Step::Next(at)
         }
-        Member::Kinds(kind, name, x, y) => {
-            let h = leaves::leaf(s, Form::ListKind, at, end);
+        Member::Choice {
+            by,
+            form,
+            content,
+            name,
+            first,
+            second,
+        } => {
+            let h = leaf(s, form, by, index, at, end, places);
             let Seen::Item(a, z) = h else {
                 return leaves::past(h);
             };
-            places::note(places, kind, index, a, z, 0);
-            if integers::is_one(s, a, z) {
-                return item(s, x, name, index, z, end, places);
+            if leaves::is_content(s, content, a, z) {
+                return item(s, first, name, index, z, end, places);
             }
-            item(s, y, name, index, z, end, places)
+            item(s, second, name, index, z, end, places)
         }
     }
 }

@@ -12,7 +12,7 @@ use Rattle.terms.specs.Answer.{good, bind, need, have}
 use Rattle.terms.specs.Digits.{digits}
 use Rattle.terms.specs.Laws.Answer.{clash, good-inj, test, and-l, and-r, pick-yes, pick-no, by-bind, by-need, by-have, bind-eq, need-eq}
 use Rattle.terms.specs.Laws.Digits.{leading-there, leading-back}
-use Rattle.heads.specs.Head.{Form, forms, unspelled, spell, octets, tlv, Size, unspell, size, opening, Cut, before, cut, head, outermost}
+use Rattle.heads.specs.Head.{Form, forms, unspelled, spell, octets, tlv, Size, unspell, size, opening, Cut, cutOff, before, cut, head, outermost}
 
 -- ---- the table of forms
 
@@ -173,7 +173,7 @@ unfolding opening
 opening-rest t [] b z e = clash e
 opening-rest t (x ∷ w) b z e = by-need _ _ _ _ _ e λ h e₁. let q = size-back b w z e₁ in (rw (q .0) (omega (arith, length-append (octets (z .0)) (z .1))), q .1)
 
-cut-there : (c w : List ℕ) (b : ℕ) → cut b (length c, c ++ w) ≡ good (c, w, b + before (length c))
+cut-there : (c w : List ℕ) (b : ℕ) → cut b (length c, c ++ w) ≡ good (cutOff c w (b + before (length c)))
 unfolding cut need
 cut-there c w b =
     let e : length c ≤ length (c ++ w) = rw length-append (omega arith) in
@@ -181,14 +181,14 @@ cut-there c w b =
 
 -- what was opened and cut off was written so
 opened : (t : ℕ) (w : List ℕ) (b : ℕ) (z : Size) (c : Cut) → opening t w b ≡ good z → cut b z ≡ good c
-    → (w ≡ tlv t (c .0) ++ c .1) × (c .2 ≡ b + before (length (c .0))) × (z .0 ≡ length (c .0)) × (length (c .0) < unspelled)
+    → (w ≡ tlv t (c .content) ++ c .rest) × (c .start ≡ b + before (length (c .content))) × (z .0 ≡ length (c .content)) × (length (c .content) < unspelled)
 unfolding opening tlv cut
 opened t [] b z c e g = clash e
 opened t (x ∷ w) b z c e g =
     by-need _ _ _ _ _ e λ h₁ e₁. by-need _ _ _ _ _ g λ h₂ e₂.
     let q = size-back b w z e₁ in
     let y : x ≡ t = eqb→eq x t h₁ in
-    let i : (take (z .0) (z .1), drop (z .0) (z .1), b + before (z .0)) ≡ c = good-inj e₂ in
+    let i : cutOff (take (z .0) (z .1)) (drop (z .0) (z .1)) (b + before (z .0)) ≡ c = good-inj e₂ in
     let n : length (take (z .0) (z .1)) ≡ z .0 = length-take-le (z .0) (z .1) (leb→le _ _ h₂) in
     rw (← i) (
       rw (n, y, append-assoc (octets (z .0)) (take (z .0) (z .1)) (drop (z .0) (z .1)), take-append-drop (z .0) (z .1)) (ap (λ (v : List ℕ). t ∷ v) (q .0)),
@@ -197,23 +197,23 @@ opened t (x ∷ w) b z c e g =
       rw n (q .1),
     )
 
-pub head-tlv : (t : ℕ) (c w : List ℕ) (b : ℕ) → length c < unspelled → head t (tlv t c ++ w) b ≡ good (c, w, b + before (length c))
+pub head-tlv : (t : ℕ) (c w : List ℕ) (b : ℕ) → length c < unspelled → head t (tlv t c ++ w) b ≡ good (cutOff c w (b + before (length c)))
 unfolding head
 head-tlv t c w b h = bind-eq _ (opening-tlv t c w b h) ∙ cut-there c w b
 
-pub head-back : (t : ℕ) (w : List ℕ) (b : ℕ) (c : Cut) → head t w b ≡ good c → (w ≡ tlv t (c .0) ++ c .1) × (c .2 ≡ b + before (length (c .0))) × (length (c .0) < unspelled)
+pub head-back : (t : ℕ) (w : List ℕ) (b : ℕ) (c : Cut) → head t w b ≡ good c → (w ≡ tlv t (c .content) ++ c .rest) × (c .start ≡ b + before (length (c .content))) × (length (c .content) < unspelled)
 unfolding head
 head-back t w b c e = by-bind _ _ _ e λ z e₁ e₂. let o = opened t w b z c e₁ e₂ in (o .0, o .1, o .3)
 
-pub outermost-tlv : (m t : ℕ) (c w : List ℕ) (b : ℕ) → length c < unspelled → length (tlv t c) ≤ m → outermost m t (tlv t c ++ w) b ≡ good (c, w, b + before (length c))
+pub outermost-tlv : (m t : ℕ) (c w : List ℕ) (b : ℕ) → length c < unspelled → length (tlv t c) ≤ m → outermost m t (tlv t c ++ w) b ≡ good (cutOff c w (b + before (length c)))
 unfolding outermost
 outermost-tlv m t c w b h k =
     bind-eq _ (opening-tlv t c w b h) ∙ need-eq (leb (before (length c) + length c) m) _ _ _ (le→leb (before (length c) + length c) m (rw (← length-tlv t c) k)) ∙ cut-there c w b
 
-pub outermost-back : (m t : ℕ) (w : List ℕ) (b : ℕ) (c : Cut) → outermost m t w b ≡ good c → (head t w b ≡ good c) × (length (tlv t (c .0)) ≤ m)
+pub outermost-back : (m t : ℕ) (w : List ℕ) (b : ℕ) (c : Cut) → outermost m t w b ≡ good c → (head t w b ≡ good c) × (length (tlv t (c .content)) ≤ m)
 unfolding outermost head
 outermost-back m t w b c e =
     by-bind _ _ _ e λ z e₁ e₂. by-need _ _ _ _ _ e₂ λ h e₃.
     let o = opened t w b z c e₁ e₃ in
     let l : before (z .0) + z .0 ≤ m = leb→le _ _ h in
-    (bind-eq _ e₁ ∙ e₃, rw (length-tlv t (c .0), ← o .2) l)
+    (bind-eq _ e₁ ∙ e₃, rw (length-tlv t (c .content), ← o .2) l)

@@ -13,7 +13,7 @@ use Rattle.terms.specs.Numbers.{bad-length, other-tag, too-large}
 use Rattle.terms.specs.Answer.{Res, good, fault, pick, bind, need, have, every}
 use Rattle.terms.specs.Digits.{isByte, number, leading}
 use Rattle.terms.specs.Laws.Answer.{test, and-l, and-r, is-true, is-false}
-use Rattle.heads.specs.Head.{Form, forms, Size, unspell, size, opening, Cut, before, cut, outermost}
+use Rattle.heads.specs.Head.{Form, forms, Size, unspell, size, opening, Cut, cutOff, before, cut, outermost}
 use Rattle.heads.specs.Laws.Head.{opening-rest}
 
 -- what was read, with more after it
@@ -26,7 +26,7 @@ moreSize z (good x) = good (x .0, x .1 ++ z)
 moreSize z (fault n p) = fault n p
 
 abbrev pub moreCut : List ℕ → Res Cut → Res Cut
-moreCut z (good c) = good (c .0, c .1 ++ z, c .2)
+moreCut z (good c) = good (cutOff (c .content) (c .rest ++ z) (c .start))
 moreCut z (fault n p) = fault n p
 
 leading-more : (k : ℕ) (w z : List ℕ) → k ≤ length w → leading k (w ++ z) ≡ moreSome z (leading k w)

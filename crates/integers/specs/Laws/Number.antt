@@ -26,7 +26,7 @@ use Rattle.contents.specs.Rules.{integerRule, also, onlyRule}
 use Rattle.contents.specs.Leaves.{knownRule, version}
 use Rattle.contents.specs.Scan.{checkedAt}
 use Rattle.contents.specs.declared.Checked.the-variants.{Fine, Wrong}
-use Rattle.integers.specs.Number.{digitOf, turnedIf, negative, numberOf, numberAt, isOne, allowedOf}
+use Rattle.integers.specs.Number.{digitOf, turnedIf, negative, numberOf, numberAt, allowedOf}
 use Rattle.integers.specs.declared.Number.{Number}
 use Rattle.integers.specs.declared.Allowed.{Allowed}
 use Rattle.integers.specs.declared.Allowed.the-variants.{Kind, Millimetres}
@@ -223,15 +223,6 @@ module _ (s : List ℕ) (p a z : ℕ) (x : Number) (is : x ≡ numberAt s a z) (
   pub integer-other : (v : ℤ) (t : Bool) → x ≡ Value v → t ≡ allowedOf k v → t ≡ false → Wrong not-allowed p ≡ checkedAt (integerRule (allowedOf k)) s p a z
   unfolding checkedAt integerRule numberAt ask placeOf
   integer-other v t e f g = let w = number-well (slice a z s) v (sym is ∙ e) in rw (w .0, w .1, ← f, g)
-
-module _ (s : List ℕ) (a z : ℕ) (x : Number) (h : x ≡ numberAt s a z) where
-  pub one-bad : x ≡ Bad → false ≡ isOne (slice a z s)
-  unfolding isOne numberAt
-  one-bad e = rw (number-ill (slice a z s) (sym h ∙ e))
-
-  pub one-good : (v : ℤ) (t : Bool) → x ≡ Value v → t ≡ fromOne (pos 1) v → t ≡ isOne (slice a z s)
-  unfolding isOne numberAt
-  one-good v t e f = let w = number-well (slice a z s) v (sym h ∙ e) in rw (w .0, w .1) f
 
 module _ (s : List ℕ) (p a z : ℕ) (c : List ℕ) (x : Number) (win : c ≡ slice a z s) (is : x ≡ numberOf c) where
   pub version-bad : x ≡ Bad → Wrong bad-integer p ≡ checkedAt (knownRule version) s p a z

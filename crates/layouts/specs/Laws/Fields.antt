@@ -1,16 +1,17 @@
 -- Each field's bytes stand at its place in the record: for every layout. Assumes nothing.
-use mathlib.Core.Path.{_≡_, refl, sym, ap, _∙_}
+use mathlib.Core.Path.{_≡_, refl, sym, ap, _∙_, subst}
 use mathlib.Core.Logic.{inl, inr}
 use Prim.Native.Nat.{ℕ, suc, _+_, _<_}
 use native.Mathlib.Omega.{arith}
-use mathlib.Core.Bool.{Bool, true, false}
-use mathlib.Core.Option.{none, some}
+use mathlib.Core.Bool.{Bool, true, false, not}
+use mathlib.Core.Option.{Option, none, some}
 use mathlib.Core.List.{List, [], _∷_, _++_, append-assoc, append-nil}
 use lib.ListN.{length, take, drop, length-append, drop-of-length-le}
 use lib.Seq.{take-at, drop-at, drop-drop, drop-append-le}
 use lib.Dec.{T, leb, leb→le, nleb→lt}
 use Rattle.terms.specs.declared.Field.{Field}
-use Rattle.terms.specs.Laws.Answer.{test, pick-yes, pick-no}
+use Rattle.terms.specs.Answer.{every}
+use Rattle.terms.specs.Laws.Answer.{test, both, pick-yes, pick-no}
 use Rattle.heads.specs.Head.{tlv, octets, before}
 use Rattle.contents.specs.Leaves.{boolean}
 use Rattle.layouts.specs.Layout.{Item, leaf, node, list, wrap, Members, end, _▸_, Member, known, one, maybe, flag, choose, Values, All, each, option, either, critical, encode, encodes, encodePart}
@@ -126,11 +127,36 @@ fields-stand r v =
     let m : length (sequence ∷ octets (length c)) ≡ before (length c) = omega arith in
     rw m at (run-placed (recordOf r v) r 0 v (sequence ∷ octets (length c)) [] (n .0))
 
--- and so does the one that is asked for, which passes what it is asked for by
-pub first-stands : (P : Entry → Type 0) (p : Entry → Bool) (xs : List Entry) (x : Entry) → All P xs → first p xs ≡ some x → P x × T (p x)
-unfolding first
-first-stands P p [] x h e = let z : _≡_ {A = ℕ} 0 1 = cc in let y : ⊥ = omega arith in absurd y
-first-stands P p (y ∷ ys) x h e =
-    test (p y)
-    (λ t. let q : some y ≡ some x = sym (pick-yes (p y) _ _ t) ∙ e in let u : y ≡ x = cc in rw (← u) (h .0, t))
-    (λ t. first-stands P p ys x (h .1) (sym (pick-no (p y) _ _ t) ∙ e))
+-- ---- the first that passes
+
+-- none passes
+abbrev pub None : {A : Type 0} → (A → Bool) → List A → Type 0
+None p xs = T (every (λ x. not (p x)) xs)
+
+-- it passes, and none before it does
+abbrev pub First : {A : Type 0} → (A → Bool) → List A → A → Type 0
+First {A} p xs x = (earlier : List A) × (later : List A) × (xs ≡ earlier ++ x ∷ later) × None p earlier × T (p x)
+
+abbrev pub Sought : {A : Type 0} → (A → Bool) → List A → Option A → Type 0
+Sought p xs none = None p xs
+Sought p xs (some x) = First p xs x
+
+pub first-sought : {A : Type 0} (p : A → Bool) (xs : List A) → Sought p xs (first p xs)
+unfolding first every
+first-sought p [] = tt
+first-sought {A} p (x ∷ xs) =
+    test (p x)
+    (λ t. subst (Sought p (x ∷ xs)) (sym (pick-yes (p x) _ _ t)) ([], xs, refl, tt, t))
+    (λ t. subst (Sought p (x ∷ xs)) (sym (pick-no (p x) _ _ t)) (later t (first p xs) (first-sought p xs)))
+  where
+    later : T (not (p x)) → (o : Option A) → Sought p xs o → Sought p (x ∷ xs) o
+    later t none h = both (not (p x)) _ t h
+    later t (some y) (a, b, q, h, u) = (x ∷ a, b, ap (λ (z : List A). x ∷ z) q, both (not (p x)) _ t h, u)
+
+-- what holds of each holds of the one that is found
+pub first-holds : {A : Type 0} (P : A → Type 0) (p : A → Bool) (xs : List A) (x : A) → All P xs → First p xs x → P x
+first-holds {A} P p xs x h (a, b, q, n, t) = found a (subst (All P) q h)
+  where
+    found : (ys : List A) → All P (ys ++ x ∷ b) → P x
+    found [] k = k .0
+    found (y ∷ ys) k = found ys (k .1)

@@ -48,28 +48,28 @@ by-pick false r r′ a x x′ y h f g = g h
 module _ (s : List ℕ) where
   -- what stands behind a head: a window of the slice, where it starts and where the item ends
   head-place : (t p e : ℕ) → p ≤ e → e ≤ length s → (c : Cut) → head t (slice p e s) p ≡ good c
-      → (c .0 ≡ slice (c .2) (next c) s) × (c .2 ≤ next c) × (next c ≤ length s) × (c .2 ≡ p + before (length (c .0))) × (next c ≡ p + length (tlv t (c .0)))
+      → (c .content ≡ slice (c .start) (next c) s) × (c .start ≤ next c) × (next c ≤ length s) × (c .start ≡ p + before (length (c .content))) × (next c ≡ p + length (tlv t (c .content)))
   head-place t p e pe es c h =
       let b = head-parts s t p e pe es c h in
       let k = head-back t (slice p e s) p c h in
-      let n = length-tlv t (c .0) in
+      let n = length-tlv t (c .content) in
       (b .0, omega arith, omega arith, k .1, omega arith)
 
   -- a primitive item notes its content, past what is never handed out
   leaf-marks : (l : Leaf) (f : Field) (k p e : ℕ) → p ≤ e → e ≤ length s → (c : Cut) → readLeaf l (slice p e s) p ≡ good c → (d : List ℕ)
-      → leafMarks l f k s p e d ≡ notes (entry f k (p + before (length (c .0)) + l .hidden) (drop (l .hidden) (c .0)) ∷ []) d
+      → leafMarks l f k s p e d ≡ notes (entry f k (p + before (length (c .content)) + l .hidden) (drop (l .hidden) (c .content)) ∷ []) d
   unfolding leafMarks notes
   leaf-marks l f k p e pe es c h d =
       let b = leaf-back (l .tag) (l .rule) (slice p e s) p c h in
-      let n = length-tlv (l .tag) (c .0) in
-      let m = length-drop (l .hidden) (c .0) in
+      let n = length-tlv (l .tag) (c .content) in
+      let m = length-drop (l .hidden) (c .content) in
       rw (leaf-agree s (l .tag) (l .rule) p e pe es, h) (noted-alike f k _ _ _ _ 0 d (omega arith) (omega arith))
 
   -- a list's items are counted, and each is noted under its index
   module _ {A : Type 0} (f : ℕ → Step) (m : ℕ → ℕ → List ℕ → List ℕ) (g : List ℕ → ℕ → Res (Got A)) (en : A → List ℕ) (F : ℕ → A → ℕ → List Entry) (e : ℕ) (es : e ≤ length s)
       (like : (p : ℕ) → p ≤ e → f p ≡ step (g (slice p e s) p))
-      (on : (p : ℕ) → p ≤ e → (x : Got A) → g (slice p e s) p ≡ good x → Onward s p e (x .1) (x .2) × (x .2 ≡ p + length (en (x .0))))
-      (mark : (j p : ℕ) → p ≤ e → (x : Got A) → g (slice p e s) p ≡ good x → (d : List ℕ) → m j p d ≡ notes (F j (x .0) p) d) where
+      (on : (p : ℕ) → p ≤ e → (x : Got A) → g (slice p e s) p ≡ good x → Onward s p e (x .rest) (x .after) × (x .after ≡ p + length (en (x .value))))
+      (mark : (j p : ℕ) → p ≤ e → (x : Got A) → g (slice p e s) p ≡ good x → (d : List ℕ) → m j p d ≡ notes (F j (x .value) p) d) where
     many-marks : (n j p : ℕ) → p ≤ e → (xs : List A) → many g n (slice p e s) p ≡ good xs → (d : List ℕ)
         → (tally f n j p e ≡ Items (j + length xs)) × (manyMarks f m n j p e d ≡ notes (eachFields F en j xs p) d)
     unfolding tally manyMarks many eachFields notes pick
@@ -87,7 +87,7 @@ module _ (s : List ℕ) where
         (λ w q. by-bind _ _ _ q λ a e₁ e₂. by-bind _ _ _ e₂ λ ys e₃ e₄.
         let e₅ : g (slice p e s) p ≡ good a = rw (← w) e₁ in
         let o = on p pe a e₅ in
-        let r = many-marks n (suc j) (a .2) (o .0 .2) ys (rw (o .0 .0) at e₃) (m j p d) in
+        let r = many-marks n (suc j) (a .after) (o .0 .2) ys (rw (o .0 .0) at e₃) (m j p d) in
         rw (← good-inj e₄, like p pe, e₅, notes-append, ← o .1, ← mark j p pe a e₅ d) (r .0 ∙ ap Items (omega arith), r .1))
         refl h
 
@@ -95,30 +95,30 @@ module _ (s : List ℕ) where
     unfolding marks read itemFields headAt notes readOption optionFields readFlag flagFields readEither eitherFields
 
     -- an item that was read notes its fields
-    pub marks-read : (i : Item) (f : Field) (k p e : ℕ) → p ≤ e → e ≤ length s → (x : Got (Value i)) → read i (slice p e s) p ≡ good x → (d : List ℕ) → marks i f k s p e d ≡ notes (itemFields i f k (x .0) p) d
+    pub marks-read : (i : Item) (f : Field) (k p e : ℕ) → p ≤ e → e ≤ length s → (x : Got (Value i)) → read i (slice p e s) p ≡ good x → (d : List ℕ) → marks i f k s p e d ≡ notes (itemFields i f k (x .value) p) d
     marks-read (leaf l) f k p e pe es x h d =
         by-bind _ _ _ h λ c e₁ e₂. rw (← good-inj e₂) (leaf-marks l f k p e pe es c e₁ d)
     marks-read (node t r) f k p e pe es x h d =
         by-bind _ _ _ h λ c e₁ e₂. by-bind _ _ _ e₂ λ v e₃ e₄.
         let b = head-place t p e pe es c e₁ in
-        rw (← good-inj e₄, e₁, ← backwards r (c .0) (c .2) v e₃ .0, ← b .3, ← b .4) (marksAll-read r k (c .2) (next c) (b .1) (b .2) v (rw (b .0) at e₃) _)
+        rw (← good-inj e₄, e₁, ← backwards r (c .content) (c .start) v e₃ .0, ← b .3, ← b .4) (marksAll-read r k (c .start) (next c) (b .1) (b .2) v (rw (b .0) at e₃) _)
     marks-read (list t o n g i) f k p e pe es x h d =
         by-bind _ _ _ h λ c e₁ e₂. by-need _ _ _ _ _ e₂ λ y e₃. by-bind _ _ _ e₃ λ vs e₄ e₅.
         let b = head-place t p e pe es c e₁ in
-        let w = many-back (λ x p. read i x p) (λ v. encode i v) (λ v. Ok i v) (λ y p z g. backward i y p z g) n (c .0) (c .2) vs e₄ in
-        let y′ : T (o || ltb (c .2) (next c)) = rw (enough-agree s o (c .2) (next c) (b .1) (b .2), ← b .0) y in
+        let w = many-back (λ x p. read i x p) (λ v. encode i v) (λ v. Ok i v) (λ y p z g. backward i y p z g) n (c .content) (c .start) vs e₄ in
+        let y′ : T (o || ltb (c .start) (next c)) = rw (enough-agree s o (c .start) (next c) (b .1) (b .2), ← b .0) y in
         let m = many-marks (λ q. scan i s q (next c)) (λ j q x. marks i g j s q (next c) x) (λ x q. read i x q) (λ v. encode i v) (λ j v q. itemFields i g j v q) (next c) (b .2)
         (λ q a. scan-read s i q (next c) a (b .2))
         (λ q a x r. (item-on s i q (next c) a (b .2) x r, backward i (slice q (next c) s) q x r .2))
         (λ j q a x r d. marks-read i g j q (next c) a (b .2) x r d)
-        n 0 (c .2) (b .1) vs (rw (b .0) at e₄) d in
+        n 0 (c .start) (b .1) vs (rw (b .0) at e₄) d in
         let z : 0 + length vs ≡ length vs = omega arith in
         rw (← good-inj e₅, e₁, pick-yes _ _ _ y′, m .0, m .1, notes-append, ← w .0, ← b .3, ← b .4, z)
     marks-read (wrap t i) f k p e pe es x h d =
         by-bind _ _ _ h λ c e₁ e₂. by-bind _ _ _ e₂ λ a e₃ e₄. by-bind _ _ _ e₄ λ z e₅ e₆.
         let b = head-place t p e pe es c e₁ in
-        let q : c .0 ≡ encode i (a .0) = backward i (c .0) (c .2) a e₃ .0 ∙ ap (λ (y : List ℕ). encode i (a .0) ++ y) (finish-back (a .1) (a .2) z e₅) ∙ append-nil (encode i (a .0)) in
-        rw (← good-inj e₆, e₁, ← q, ← b .3) (marks-read i f k (c .2) (next c) (b .1) (b .2) a (rw (b .0) at e₃) d)
+        let q : c .content ≡ encode i (a .value) = backward i (c .content) (c .start) a e₃ .0 ∙ ap (λ (y : List ℕ). encode i (a .value) ++ y) (finish-back (a .rest) (a .after) z e₅) ∙ append-nil (encode i (a .value)) in
+        rw (← good-inj e₆, e₁, ← q, ← b .3) (marks-read i f k (c .start) (next c) (b .1) (b .2) a (rw (b .0) at e₃) d)
 
     -- so does a run of members
     pub marksAll-read : (r : Members) (k p e : ℕ) → p ≤ e → e ≤ length s → (v : Values r) → reads r (slice p e s) p ≡ good v → (d : List ℕ) → marksAll r k s p e d ≡ notes (runFields r k v p) d
@@ -127,10 +127,10 @@ module _ (s : List ℕ) where
         by-bind _ _ _ h λ a e₁ e₂. by-bind _ _ _ e₂ λ y e₃ e₄.
         let o = part-on s m p e pe es a e₁ in
         rw (← good-inj e₄, part-read s m p e pe es, e₁, notes-append, ← backwardPart m (slice p e s) p a e₁ .2, marksPart-read m k p e pe es a e₁ d)
-        (marksAll-read r k (a .2) e (o .2) es y (rw (o .0) at e₃) _)
+        (marksAll-read r k (a .after) e (o .2) es y (rw (o .0) at e₃) _)
 
     -- so does a member
-    pub marksPart-read : (m : Member) (k p e : ℕ) → p ≤ e → e ≤ length s → (x : Got (Part m)) → readPart m (slice p e s) p ≡ good x → (d : List ℕ) → marksPart m k s p e d ≡ notes (partFields m k (x .0) p) d
+    pub marksPart-read : (m : Member) (k p e : ℕ) → p ≤ e → e ≤ length s → (x : Got (Part m)) → readPart m (slice p e s) p ≡ good x → (d : List ℕ) → marksPart m k s p e d ≡ notes (partFields m k (x .value) p) d
     marksPart-read (known w) k p e pe es x h d = refl
     marksPart-read (one f i) k p e pe es x h d = marks-read i f k p e pe es x h d
     marksPart-read (maybe f i) k p e pe es x h d =
@@ -142,7 +142,7 @@ module _ (s : List ℕ) where
         rw (begins-agree s (boolean .tag) p e pe es)
         (by-pick (begins (boolean .tag) (slice p e s)) _ _ x _ _ _ h
         (λ q. by-bind _ _ _ q λ c e₁ e₂.
-        let v = yes-back (c .0) (leaf-back (boolean .tag) (boolean .rule) (slice p e s) p c e₁ .1) in
+        let v = yes-back (c .content) (leaf-back (boolean .tag) (boolean .rule) (slice p e s) p c e₁ .1) in
         let z : p + before 1 + 0 ≡ p + before 1 = omega arith in
         rw (← good-inj e₂) (rw (v, z) at (leaf-marks boolean f k p e pe es c e₁ d)))
         (λ q. rw (← good-inj q)))
@@ -151,7 +151,7 @@ module _ (s : List ℕ) where
         let b = leaf-parts s (l .tag) (l .rule) p e pe es c e₁ in
         let n = leaf-back (l .tag) (l .rule) (slice p e s) p c e₁ .2 in
         rw (← good-inj e₄, leaf-agree s (l .tag) (l .rule) p e pe es, e₁, ← b .0, leaf-marks l f k p e pe es c e₁ d, ← n)
-        (by-pick (t (c .0)) _ _ a _ _ _ e₃
+        (by-pick (t (c .content)) _ _ a _ _ _ e₃
         (λ q. by-bind _ _ _ q λ y e₅ e₆. rw (← good-inj e₆) (marks-read i g k (next c) e (b .3) es y (rw (b .1) at e₅) _))
         (λ q. by-bind _ _ _ q λ y e₅ e₆. rw (← good-inj e₆) (marks-read j g k (next c) e (b .3) es y (rw (b .1) at e₅) _)))
 
@@ -162,10 +162,10 @@ unfolding accept recordAt outermostAt fields
 accept-marks most r s v h a z o d =
     by-bind _ _ _ h λ x e₁ e₂. by-bind _ _ _ e₁ λ c e₃ e₄. by-bind _ _ _ e₄ λ y e₅ e₆. by-bind _ _ _ e₂ λ u e₇ e₈.
     let w : slice 0 (length s) s ≡ s = take-length s in
-    let q : At (c .2) (next c) ≡ At a z = rw (w, e₃) at o in
-    let i : c .2 ≡ a = cc in
+    let q : At (c .start) (next c) ≡ At a z = rw (w, e₃) at o in
+    let i : c .start ≡ a = cc in
     let j : next c ≡ z = cc in
     let b = head-place s sequence 0 (length s) (omega arith) (omega arith) c (rw w (outermost-back most sequence s 0 c e₃ .0)) in
-    let l : before (length (c .0)) ≡ c .2 = omega arith in
-    let g : y ≡ v = ap (λ k. k .0) (good-inj e₆) ∙ good-inj e₈ in
-    rw (← g, ← i, ← j, ← backwards r (c .0) (c .2) y e₅ .0, l) (marksAll-read s r 0 (c .2) (next c) (b .1) (b .2) y (rw (b .0) at e₅) d)
+    let l : before (length (c .content)) ≡ c .start = omega arith in
+    let g : y ≡ v = ap (λ k. k .value) (good-inj e₆) ∙ good-inj e₈ in
+    rw (← g, ← i, ← j, ← backwards r (c .content) (c .start) y e₅ .0, l) (marksAll-read s r 0 (c .start) (next c) (b .1) (b .2) y (rw (b .0) at e₅) d)

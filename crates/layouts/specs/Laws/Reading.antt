@@ -9,9 +9,9 @@ use mathlib.Core.List.{List, [], _∷_, _++_, append-assoc, append-nil}
 use lib.ListN.{length, length-append}
 use lib.Dec.{T, leb, ltb, eqb}
 use borrow.Author.Tests.{eq-eqb}
-use Rattle.terms.specs.Answer.{Res, good, Got, pick, bind, need, enough, same}
+use Rattle.terms.specs.Answer.{Res, good, Got, got, pick, bind, need, enough, same}
 use Rattle.terms.specs.Laws.Answer.{clash, good-inj, test, and-l, and-r, is-true, is-false, pick-yes, pick-no, by-bind, by-need, same-eq, same-refl}
-use Rattle.heads.specs.Head.{Cut, tlv, octets, before, unspelled}
+use Rattle.heads.specs.Head.{Cut, cutOff, tlv, octets, before, unspelled}
 use Rattle.heads.specs.Laws.Head.{head-tlv, head-back, length-tlv}
 use Rattle.contents.specs.Content.{Leaf, Check, fine, wrong, ask, judge, passes}
 use Rattle.contents.specs.Leaves.{boolean, knownRule}
@@ -70,11 +70,11 @@ unfoldable mutual
 
 -- a reader takes what a writer wrote, whatever follows
 abbrev pub Forward : {A : Type 0} → (List ℕ → ℕ → Res (Got A)) → (A → List ℕ) → (A → Type 0) → Type 0
-Forward {A} f e P = (a : A) → P a → (w : List ℕ) (b : ℕ) → length (e a) < unspelled → f (e a ++ w) b ≡ good (a, w, b + length (e a))
+Forward {A} f e P = (a : A) → P a → (w : List ℕ) (b : ℕ) → length (e a) < unspelled → f (e a ++ w) b ≡ good (got a w (b + length (e a)))
 
 -- what was read from the window `w` at `b` was written so
 abbrev pub Written : {A : Type 0} → (A → List ℕ) → (A → Type 0) → List ℕ → ℕ → Got A → Type 0
-Written e P w b x = (w ≡ e (x .0) ++ x .1) × P (x .0) × (x .2 ≡ b + length (e (x .0)))
+Written e P w b x = (w ≡ e (x .value) ++ x .rest) × P (x .value) × (x .after ≡ b + length (e (x .value)))
 
 abbrev pub Backward : {A : Type 0} → (List ℕ → ℕ → Res (Got A)) → (A → List ℕ) → (A → Type 0) → Type 0
 Backward {A} f e P = (w : List ℕ) (b : ℕ) (x : Got A) → f w b ≡ good x → Written e P w b x
@@ -86,16 +86,16 @@ glue w x y r r′ p m n h k i j =
 
 -- ---- a leaf
 
-pub leaf-forward : (t : ℕ) (r : List ℕ → Check) (c w : List ℕ) (b : ℕ) → r c ≡ fine → length (tlv t c) < unspelled → readBy t r (tlv t c ++ w) b ≡ good (c, w, b + before (length c))
+pub leaf-forward : (t : ℕ) (r : List ℕ → Check) (c w : List ℕ) (b : ℕ) → r c ≡ fine → length (tlv t c) < unspelled → readBy t r (tlv t c ++ w) b ≡ good (cutOff c w (b + before (length c)))
 unfolding readBy bind judge
 leaf-forward t r c w b ok h = let n = length-tlv t c in rw (head-tlv t c w b (omega arith), ok)
 
-pub leaf-back : (t : ℕ) (r : List ℕ → Check) (w : List ℕ) (b : ℕ) (c : Cut) → readBy t r w b ≡ good c → (w ≡ tlv t (c .0) ++ c .1) × (r (c .0) ≡ fine) × (next c ≡ b + length (tlv t (c .0)))
+pub leaf-back : (t : ℕ) (r : List ℕ → Check) (w : List ℕ) (b : ℕ) (c : Cut) → readBy t r w b ≡ good c → (w ≡ tlv t (c .content) ++ c .rest) × (r (c .content) ≡ fine) × (next c ≡ b + length (tlv t (c .content)))
 unfolding readBy
 leaf-back t r w b x e =
     by-bind _ _ _ e λ c e₁ e₂. by-judge _ _ _ _ _ e₂ λ ok e₃.
     let q = head-back t w b c e₁ in
-    let n = length-tlv t (c .0) in
+    let n = length-tlv t (c .content) in
     rw (← good-inj e₃) (q .0, ok, omega arith)
 
 -- a content that has to be one known content
@@ -122,7 +122,7 @@ unfolding begins
 begins-own t e st a w = rw (st a .1) (eq-eqb t t refl)
 
 module _ {A : Type 0} (f : List ℕ → ℕ → Res (Got A)) (e : A → List ℕ) (P : A → Type 0) where
-  many-cons : (n : ℕ) (t : ℕ) (s w : List ℕ) (b : ℕ) → w ≡ t ∷ s → many f (suc n) w b ≡ (bind (f w b) λ a. bind (many f n (a .1) (a .2)) λ xs. good (a .0 ∷ xs))
+  many-cons : (n : ℕ) (t : ℕ) (s w : List ℕ) (b : ℕ) → w ≡ t ∷ s → many f (suc n) w b ≡ (bind (f w b) λ a. bind (many f n (a .rest) (a .after)) λ xs. good (a .value ∷ xs))
   unfolding many
   many-cons n t s w b q = rw q
 
@@ -144,15 +144,15 @@ module _ {A : Type 0} (f : List ℕ → ℕ → Res (Got A)) (e : A → List ℕ
   many-back bw (suc n) (x ∷ w) b xs q =
       by-bind _ _ _ q λ a e₁ e₂. by-bind _ _ _ e₂ λ ys e₃ e₄.
       let u = bw (x ∷ w) b a e₁ in
-      let v = many-back bw n (a .1) (a .2) ys e₃ in
-      rw (← good-inj e₄) (u .0 ∙ ap (λ (z : List ℕ). e (a .0) ++ z) (v .0), omega (arith, v .1), (u .1, v .2))
+      let v = many-back bw n (a .rest) (a .after) ys e₃ in
+      rw (← good-inj e₄) (u .0 ∙ ap (λ (z : List ℕ). e (a .value) ++ z) (v .0), omega (arith, v .1), (u .1, v .2))
 
   -- ---- an item that may be missing
 
   pub option-forward : Forward f e P → (t : ℕ) → Starts t e → (o : Option A) → InOption P o → (w : List ℕ) (b : ℕ) → begins t w ≡ false → length (option e o) < unspelled
-      → readOption t f (option e o ++ w) b ≡ good (o, w, b + length (option e o))
+      → readOption t f (option e o ++ w) b ≡ good (got o w (b + length (option e o)))
   unfolding readOption option bind pick
-  option-forward fw t st none ok w b q l = rw q (ap (λ (m : ℕ). good (none, w, m)) (omega arith))
+  option-forward fw t st none ok w b q l = rw q (ap (λ (m : ℕ). good (got none w m)) (omega arith))
   option-forward fw t st (some a) ok w b q l = rw (begins-own t e st a w, fw a ok w b l)
 
   pub option-back : Backward f e P → (t : ℕ) → Backward (readOption t f) (option e) (InOption P)
@@ -176,10 +176,10 @@ pub yes-back : (c : List ℕ) → booleanRule c ≡ fine → c ≡ yes-byte
 unfolding booleanRule
 yes-back c h = by-ask _ _ _ h λ t e. same-eq c yes t
 
-pub flag-forward : (v : Bool) (w : List ℕ) (b : ℕ) → begins (boolean .tag) w ≡ false → length (critical v) < unspelled → readFlag (critical v ++ w) b ≡ good (v, w, b + length (critical v))
+pub flag-forward : (v : Bool) (w : List ℕ) (b : ℕ) → begins (boolean .tag) w ≡ false → length (critical v) < unspelled → readFlag (critical v ++ w) b ≡ good (got v w (b + length (critical v)))
 unfolding readFlag critical bind pick begins tlv
-flag-forward true w b q h = rw (leaf-forward (boolean .tag) (boolean .rule) yes w b boolean-yes h) (ap (λ (m : ℕ). good (true, w, m)) (let e = length-tlv (boolean .tag) yes in omega arith))
-flag-forward false w b q h = rw q (ap (λ (m : ℕ). good (false, w, m)) (omega arith))
+flag-forward true w b q h = rw (leaf-forward (boolean .tag) (boolean .rule) yes w b boolean-yes h) (ap (λ (m : ℕ). good (got true w m)) (let e = length-tlv (boolean .tag) yes in omega arith))
+flag-forward false w b q h = rw q (ap (λ (m : ℕ). good (got false w m)) (omega arith))
 
 pub flag-back : Backward readFlag critical (λ v. Unit {0})
 unfolding readFlag critical
@@ -187,7 +187,7 @@ flag-back w b x q =
     test (begins (boolean .tag) w)
     (λ h. by-bind _ _ _ (sym (pick-yes (begins (boolean .tag) w) _ _ h) ∙ q) λ c e₁ e₂.
     let u = leaf-back (boolean .tag) (boolean .rule) w b c e₁ in
-    let v = yes-back (c .0) (u .1) in
+    let v = yes-back (c .content) (u .1) in
     rw (← good-inj e₂) (rw v at (u .0), tt, u .2 ∙ ap (λ (y : List ℕ). b + length (tlv (boolean .tag) y)) v))
     (λ h. rw (← good-inj (sym (pick-no (begins (boolean .tag) w) _ _ h) ∙ q)) (refl, tt, omega arith))
 
@@ -281,11 +281,11 @@ mutual
   pub forward : (i : Item) → T (clear i) → Forward (λ w b. read i w b) (λ v. encode i v) (λ v. Ok i v)
   forward (leaf l) k v ok w b h =
       let m = length-tlv (l .tag) v in
-      rw (leaf-forward (l .tag) (l .rule) v w b ok h) (ap (λ (m : ℕ). good (v, w, m)) (omega arith))
+      rw (leaf-forward (l .tag) (l .rule) v w b ok h) (ap (λ (m : ℕ). good (got v w m)) (omega arith))
   forward (node t r) k v ok w b h =
       let m = length-tlv t (encodes r v) in
       rw (head-tlv t (encodes r v) w b (omega arith), forwards r (and-r (leb (spare r) 16) (clears r) k) v ok (b + before (length (encodes r v))) (omega arith))
-      (ap (λ (m : ℕ). good (v, w, m)) (omega arith))
+      (ap (λ (m : ℕ). good (got v w m)) (omega arith))
   forward (list t e n f i) k vs ok w b h =
       let c : List ℕ = each (λ v. encode i v) vs in
       let m = length-tlv t c in
@@ -294,12 +294,12 @@ mutual
         is-true (enough e c) (enough-each (tagOf i) (λ v. encode i v) (starts i) e vs (ok .0)),
         many-forward (λ x p. read i x p) (λ v. encode i v) (λ v. Ok i v) (λ v o x p q. forward i (and-r (ltb n 65536) (clear i) k) v o x p q) (tagOf i) (starts i) n vs (ok .2) (ok .1) (b + before (length c)) (omega arith),
       )
-      (ap (λ (m : ℕ). good (vs, w, m)) (omega arith))
+      (ap (λ (m : ℕ). good (got vs w m)) (omega arith))
   forward (wrap t i) k v ok w b h =
       let m = length-tlv t (encode i v) in
-      let s : read i (encode i v) (b + before (length (encode i v))) ≡ good (v, [], b + before (length (encode i v)) + length (encode i v)) =
+      let s : read i (encode i v) (b + before (length (encode i v))) ≡ good (got v [] (b + before (length (encode i v)) + length (encode i v))) =
       rw append-nil at (forward i k v ok [] (b + before (length (encode i v))) (omega arith)) in
-      rw (head-tlv t (encode i v) w b (omega arith), s) (ap (λ (m : ℕ). good (v, w, m)) (omega arith))
+      rw (head-tlv t (encode i v) w b (omega arith), s) (ap (λ (m : ℕ). good (got v w m)) (omega arith))
 
   pub forwards : (r : Members) → T (clears r) → (v : Values r) → Oks r v → (b : ℕ) → length (encodes r v) < unspelled → reads r (encodes r v) b ≡ good v
   forwards end k v ok b h = refl
@@ -312,12 +312,12 @@ mutual
       )
 
   pub forwardPart : (m : Member) → T (clearPart m) → (v : Part m) → OkPart m v → (w : List ℕ) (b : ℕ) → Follows m w → length (encodePart m v) < unspelled
-      → readPart m (encodePart m v ++ w) b ≡ good (v, w, b + length (encodePart m v))
+      → readPart m (encodePart m v ++ w) b ≡ good (got v w (b + length (encodePart m v)))
   forwardPart (known x) k v ok w b q h =
       let l : Leaf = x .leaf in
       let c : List ℕ = x .content in
       let m = length-tlv (l .tag) c in
-      rw (leaf-forward (l .tag) (knownRule x) c w b (only-there (l .rule) c (x .other) (passed (l .rule c) k)) h) (ap (λ (m : ℕ). good (v, w, m)) (omega arith))
+      rw (leaf-forward (l .tag) (knownRule x) c w b (only-there (l .rule) c (x .other) (passed (l .rule c) k)) h) (ap (λ (m : ℕ). good (got v w m)) (omega arith))
   forwardPart (one f i) k v ok w b q h = forward i k v ok w b h
   forwardPart (maybe f i) k v ok w b q h =
       option-forward (λ x p. read i x p) (λ x. encode i x) (λ x. Ok i x) (λ x o w p q. forward i k x o w p q) (tagOf i) (starts i) v ok w b q h
@@ -335,7 +335,7 @@ mutual
             (λ x o w p q. forward i (and-l (clear i) (clear j) k) x o w p q) (λ x o w p q. forward j (and-r (clear i) (clear j) k) x o w p q)
             (v .1) (ok .1) w (b + length x) (omega arith),
       )
-      (ap (λ (m : ℕ). good (v, w, m)) (omega arith))
+      (ap (λ (m : ℕ). good (got v w m)) (omega arith))
 
 -- ---- what is read was written so
 
@@ -359,23 +359,23 @@ mutual
   backward (node t r) w b x q =
       by-bind _ _ _ q λ c e₁ e₂. by-bind _ _ _ e₂ λ v e₃ e₄.
       let u = head-back t w b c e₁ in
-      let s = backwards r (c .0) (c .2) v e₃ in
-      let n = length-tlv t (c .0) in
+      let s = backwards r (c .content) (c .start) v e₃ in
+      let n = length-tlv t (c .content) in
       rw (← good-inj e₄, ← s .0) (u .0, s .1, omega arith)
   backward (list t e n f i) w b x q =
       by-bind _ _ _ q λ c e₁ e₂. by-need _ _ _ _ _ e₂ λ h e₃. by-bind _ _ _ e₃ λ vs e₄ e₅.
       let u = head-back t w b c e₁ in
-      let s = many-back (λ x p. read i x p) (λ v. encode i v) (λ v. Ok i v) (λ y p z g. backward i y p z g) n (c .0) (c .2) vs e₄ in
-      let m = length-tlv t (c .0) in
+      let s = many-back (λ x p. read i x p) (λ v. encode i v) (λ v. Ok i v) (λ y p z g. backward i y p z g) n (c .content) (c .start) vs e₄ in
+      let m = length-tlv t (c .content) in
       let h′ : T (enough e vs) = enough-back (λ v. encode i v) e vs (rw (s .0) at h) in
       rw (← good-inj e₅, ← s .0) (u .0, (h′, s .1, s .2), omega arith)
   backward (wrap t i) w b x q =
       by-bind _ _ _ q λ c e₁ e₂. by-bind _ _ _ e₂ λ a e₃ e₄. by-bind _ _ _ e₄ λ z e₅ e₆.
       let u = head-back t w b c e₁ in
-      let s = backward i (c .0) (c .2) a e₃ in
-      let f = finish-back (a .1) (a .2) z e₅ in
-      let y : c .0 ≡ encode i (a .0) = s .0 ∙ ap (λ (z : List ℕ). encode i (a .0) ++ z) f ∙ append-nil (encode i (a .0)) in
-      let n = length-tlv t (c .0) in
+      let s = backward i (c .content) (c .start) a e₃ in
+      let f = finish-back (a .rest) (a .after) z e₅ in
+      let y : c .content ≡ encode i (a .value) = s .0 ∙ ap (λ (z : List ℕ). encode i (a .value) ++ z) f ∙ append-nil (encode i (a .value)) in
+      let n = length-tlv t (c .content) in
       rw (← good-inj e₆, ← y) (u .0, s .1, omega arith)
 
   pub backwards : (r : Members) (w : List ℕ) (b : ℕ) (v : Values r) → reads r w b ≡ good v → (w ≡ encodes r v) × Oks r v
@@ -383,15 +383,15 @@ mutual
   backwards (m ▸ r) w b v q =
       by-bind _ _ _ q λ a e₁ e₂. by-bind _ _ _ e₂ λ x e₃ e₄.
       let u = backwardPart m w b a e₁ in
-      let s = backwards r (a .1) (a .2) x e₃ in
-      rw (← good-inj e₄) (u .0 ∙ ap (λ (z : List ℕ). encodePart m (a .0) ++ z) (s .0), (u .1, s .1))
+      let s = backwards r (a .rest) (a .after) x e₃ in
+      rw (← good-inj e₄) (u .0 ∙ ap (λ (z : List ℕ). encodePart m (a .value) ++ z) (s .0), (u .1, s .1))
 
   pub backwardPart : (m : Member) → Backward (λ w b. readPart m w b) (λ v. encodePart m v) (λ v. OkPart m v)
   backwardPart (known y) w b x q =
       by-bind _ _ _ q λ a e₁ e₂.
       let l : Leaf = y .leaf in
       let u = leaf-back (l .tag) (knownRule y) w b a e₁ in
-      let v = only-back (l .rule) (y .content) (y .other) (a .0) (u .1) in
+      let v = only-back (l .rule) (y .content) (y .other) (a .content) (u .1) in
       rw (← good-inj e₂) (rw v at (u .0), tt, u .2 ∙ ap (λ (z : List ℕ). b + length (tlv (l .tag) z)) v)
   backwardPart (one f i) w b x q = backward i w b x q
   backwardPart (maybe f i) w b x q = option-back (λ x p. read i x p) (λ x. encode i x) (λ x. Ok i x) (λ y p z g. backward i y p z g) (tagOf i) w b x q
@@ -399,8 +399,8 @@ mutual
   backwardPart (choose f l t g i j) w b x q =
       by-bind _ _ _ q λ c e₁ e₂. by-bind _ _ _ e₂ λ a e₃ e₄.
       let y = leaf-back (l .tag) (l .rule) w b c e₁ in
-      let u = either-back (λ x p. read i x p) (λ x. encode i x) (λ x. Ok i x) (λ x p. read j x p) (λ x. encode j x) (λ x. Ok j x) (t (c .0)) (λ y p z g. backward i y p z g) (λ y p z g. backward j y p z g) (c .1) (next c) a e₃ in
-      let z = glue w (tlv (l .tag) (c .0)) (either (λ x. encode i x) (λ x. encode j x) (a .0)) (c .1) (a .1) b (next c) (a .2) (y .0) (u .0) (y .2) (u .2) in
+      let u = either-back (λ x p. read i x p) (λ x. encode i x) (λ x. Ok i x) (λ x p. read j x p) (λ x. encode j x) (λ x. Ok j x) (t (c .content)) (λ y p z g. backward i y p z g) (λ y p z g. backward j y p z g) (c .rest) (next c) a e₃ in
+      let z = glue w (tlv (l .tag) (c .content)) (either (λ x. encode i x) (λ x. encode j x) (a .value)) (c .rest) (a .rest) b (next c) (a .after) (y .0) (u .0) (y .2) (u .2) in
       rw (← good-inj e₄) (z .0, (y .1, u .1), z .1)
 
 -- ---- from the two laws
@@ -410,7 +410,7 @@ pub prefix-free : (i : Item) → T (clear i) → (u v : Value i) (x y : List ℕ
     → encode i u ++ x ≡ encode i v ++ y → (u ≡ v) × (x ≡ y)
 prefix-free i k u v x y p q h h′ e =
     let g = good-inj (sym (forward i k u p x 0 h) ∙ ap (λ (w : List ℕ). read i w 0) e ∙ forward i k v q y 0 h′) in
-    (ap (λ (z : Got (Value i)). z .0) g, ap (λ (z : Got (Value i)). z .1) g)
+    (ap (λ (z : Got (Value i)). z .value) g, ap (λ (z : Got (Value i)). z .rest) g)
 
 -- two allowed values are written alike only where they are equal
 pub injective : (i : Item) → T (clear i) → (u v : Value i) → Ok i u → Ok i v → length (encode i u) < unspelled → encode i u ≡ encode i v → u ≡ v

@@ -10,7 +10,7 @@ use lib.Seq.{take-length, slice, slice-empty, slice-cons, length-slice, drop-dro
 use lib.Dec.{ltb, eqb, ltb→lt, nltb→le}
 use borrow.Author.Tests.{lt-ltb, le-ltb}
 use Rattle.terms.specs.Numbers.{left-over, no-item, too-many-items}
-use Rattle.terms.specs.Answer.{Res, good, fault, Got, pick, bind, need, enough}
+use Rattle.terms.specs.Answer.{Res, good, fault, Got, got, pick, bind, need, enough}
 use Rattle.terms.specs.Laws.Answer.{good-inj, test, by-bind}
 use Rattle.heads.specs.Head.{Cut, head, outermost, tlv, octets}
 use Rattle.heads.specs.Scan.{seen, headAt, outermostAt}
@@ -59,12 +59,12 @@ out f (good a) = Next (f a)
 out f (fault n q) = Refused n q
 
 abbrev pub step : {A : Type 0} → Res (Got A) → Step
-step r = out (λ x. x .2) r
+step r = out (λ x. x .after) r
 
 abbrev pub whole : {A : Type 0} → ℕ → Res A → Step
 whole e r = out (λ x. e) r
 
-seen-bind : {A : Type 0} (g : A → ℕ) (h : Res Cut) (k : ℕ → ℕ → Step) (K : Cut → Res A) → ((c : Cut) → h ≡ good c → k (c .2) (next c) ≡ out g (K c)) → thenSeen (seen h) k ≡ out g (bind h K)
+seen-bind : {A : Type 0} (g : A → ℕ) (h : Res Cut) (k : ℕ → ℕ → Step) (K : Cut → Res A) → ((c : Cut) → h ≡ good c → k (c .start) (next c) ≡ out g (K c)) → thenSeen (seen h) k ≡ out g (bind h K)
 unfolding bind
 seen-bind g (good c) k K f = f c refl
 seen-bind g (fault n q) k K f = refl
@@ -79,12 +79,12 @@ unfolding bind
 out-map f g (good a) k h = ap Next (h a)
 out-map f g (fault n q) k h = refl
 
-judge-bind : (h : Res Cut) (k : ℕ → ℕ → Seen) (K : Cut → Res Cut) → ((c : Cut) → h ≡ good c → k (c .2) (next c) ≡ seen (K c)) → thenJudge (seen h) k ≡ seen (bind h K)
+judge-bind : (h : Res Cut) (k : ℕ → ℕ → Seen) (K : Cut → Res Cut) → ((c : Cut) → h ≡ good c → k (c .start) (next c) ≡ seen (K c)) → thenJudge (seen h) k ≡ seen (bind h K)
 unfolding bind
 judge-bind (good c) k K f = f c refl
 judge-bind (fault n q) k K f = refl
 
-seen-judge : (k : Check) (p : ℕ) (c : Cut) → judgeAt k p (c .2) (next c) ≡ seen (judge k p (c .2) (good c))
+seen-judge : (k : Check) (p : ℕ) (c : Cut) → judgeAt k p (c .start) (next c) ≡ seen (judge k p (c .start) (good c))
 unfolding judge
 seen-judge fine p c = refl
 seen-judge (wrong n x) p c = refl
@@ -101,16 +101,16 @@ out-pick g false x x′ y y′ h h′ = h′
 
 -- one of two, after the content that decides
 choose-read : {A B : Type 0} (f : List ℕ → ℕ → Res (Got A)) (g : List ℕ → ℕ → Res (Got B)) (t : Bool) (k w : List ℕ) (b : ℕ)
-    → pick t (step (f w b)) (step (g w b)) ≡ step {A = List ℕ × (A ⊎ B)} (bind (readEither t f g w b) λ a. good ((k, a .0), a .1, a .2))
+    → pick t (step (f w b)) (step (g w b)) ≡ step {A = List ℕ × (A ⊎ B)} (bind (readEither t f g w b) λ a. good (got (k, a .value) (a .rest) (a .after)))
 unfolding pick readEither bind
 choose-read {A} {B} f g true k w b = go (f w b)
   where
-    go : (r : Res (Got A)) → step r ≡ step {A = List ℕ × (A ⊎ B)} (bind {A = Got (A ⊎ B)} (bind r λ a. good (inl (a .0), a .1, a .2)) λ a. good ((k, a .0), a .1, a .2))
+    go : (r : Res (Got A)) → step r ≡ step {A = List ℕ × (A ⊎ B)} (bind {A = Got (A ⊎ B)} (bind r λ a. good (got (inl (a .value)) (a .rest) (a .after))) λ a. good (got (k, a .value) (a .rest) (a .after)))
     go (good a) = refl
     go (fault n p) = refl
 choose-read {A} {B} f g false k w b = go (g w b)
   where
-    go : (r : Res (Got B)) → step r ≡ step {A = List ℕ × (A ⊎ B)} (bind {A = Got (A ⊎ B)} (bind r λ a. good (inr (a .0), a .1, a .2)) λ a. good ((k, a .0), a .1, a .2))
+    go : (r : Res (Got B)) → step r ≡ step {A = List ℕ × (A ⊎ B)} (bind {A = Got (A ⊎ B)} (bind r λ a. good (got (inr (a .value)) (a .rest) (a .after))) λ a. good (got (k, a .value) (a .rest) (a .after)))
     go (good a) = refl
     go (fault n p) = refl
 
@@ -126,16 +126,16 @@ module _ (s : List ℕ) where
 
   -- a head's parts are windows of the slice
   abbrev Parts : ℕ → ℕ → Cut → Type 0
-  Parts p e c = (c .0 ≡ slice (c .2) (next c) s) × (c .1 ≡ slice (next c) e s) × (p ≤ c .2) × (next c ≤ e)
+  Parts p e c = (c .content ≡ slice (c .start) (next c) s) × (c .rest ≡ slice (next c) e s) × (p ≤ c .start) × (next c ≤ e)
 
   pub head-parts : (t p e : ℕ) → p ≤ e → e ≤ length s → (c : Cut) → head t (slice p e s) p ≡ good c → Parts p e c
   unfolding tlv
   head-parts t p e pe es c h =
       let b = head-back t (slice p e s) p c h in
-      let a : List ℕ = t ∷ octets (length (c .0)) in
-      let o = onward p e s a (c .0 ++ c .1) (c .2) pe es (b .0 ∙ append-assoc a (c .0) (c .1)) (b .1 ∙ omega arith) in
-      let o′ = onward (c .2) e s (c .0) (c .1) (next c) (o .2) es (sym (o .0)) refl in
-      (front-slice (c .2) e s (c .0) (c .1) (o .2) es (sym (o .0)), o′ .0, o .1, o′ .2)
+      let a : List ℕ = t ∷ octets (length (c .content)) in
+      let o = onward p e s a (c .content ++ c .rest) (c .start) pe es (b .0 ∙ append-assoc a (c .content) (c .rest)) (b .1 ∙ omega arith) in
+      let o′ = onward (c .start) e s (c .content) (c .rest) (next c) (o .2) es (sym (o .0)) refl in
+      (front-slice (c .start) e s (c .content) (c .rest) (o .2) es (sym (o .0)), o′ .0, o .1, o′ .2)
 
   -- a primitive item's parts too
   pub leaf-parts : (t : ℕ) (r : List ℕ → Check) (p e : ℕ) → p ≤ e → e ≤ length s → (c : Cut) → readBy t r (slice p e s) p ≡ good c → Parts p e c
@@ -148,7 +148,7 @@ module _ (s : List ℕ) where
   leaf-agree t r p e pe es =
       judge-bind _ _ _ λ c h.
       let b = head-parts t p e pe es c h in
-      rw (← b .0) (seen-judge (r (c .0)) p c)
+      rw (← b .0) (seen-judge (r (c .content)) p c)
 
   pub begins-agree : (t p e : ℕ) → p ≤ e → e ≤ length s → beginsAt t s p e ≡ begins t (slice p e s)
   unfolding beginsAt begins
@@ -164,7 +164,7 @@ module _ (s : List ℕ) where
   enough-agree false p e pe es = by-window p e (λ u w. u ≡ enough false w) pe es refl refl
 
   many-agree : {A : Type 0} (f : ℕ → Step) (g : List ℕ → ℕ → Res (Got A)) (e : ℕ) → e ≤ length s → ((p : ℕ) → p ≤ e → f p ≡ step (g (slice p e s) p))
-      → ((p : ℕ) → p ≤ e → (x : Got A) → g (slice p e s) p ≡ good x → Onward s p e (x .1) (x .2))
+      → ((p : ℕ) → p ≤ e → (x : Got A) → g (slice p e s) p ≡ good x → Onward s p e (x .rest) (x .after))
       → (n p : ℕ) → p ≤ e → scanMany f n p e ≡ whole e (many g n (slice p e s) p)
   unfolding scanMany many pick
   many-agree f g e es like on zero p pe = by-window p e (λ u w. pick u (Refused too-many-items p) (Next e) ≡ whole e (many g zero w p)) pe es refl refl
@@ -173,72 +173,72 @@ module _ (s : List ℕ) where
       (λ h. let h′ : p < e = ltb→lt p e h in
       let w : slice p e s ≡ getD s p 0 ∷ slice (suc p) e s = slice-cons p e s 0 h′ es in
       rw (lt-ltb p e h′, like p pe, w)
-      (out-bind (λ x. x .2) (λ x. e) _ _ _ λ a q.
+      (out-bind (λ x. x .after) (λ x. e) _ _ _ λ a q.
       let o = on p pe a (rw w q) in
-      rw (many-agree f g e es like on n (a .2) (o .2), ← o .0) (out-map (λ x. e) (λ x. e) _ _ λ a. refl)))
+      rw (many-agree f g e es like on n (a .after) (o .2), ← o .0) (out-map (λ x. e) (λ x. e) _ _ λ a. refl)))
       (λ h. let h′ : e ≤ p = nltb→le p e h in let q : p ≡ e = omega arith in let m : slice p e s ≡ [] = rw q (slice-empty e s) in rw (le-ltb p e h′, m))
 
   -- what a reading leaves
-  pub item-on : (i : Item) (p e : ℕ) → p ≤ e → e ≤ length s → (x : Got (Value i)) → read i (slice p e s) p ≡ good x → Onward s p e (x .1) (x .2)
-  item-on i p e pe es x h = let w = backward i (slice p e s) p x h in onward p e s (encode i (x .0)) (x .1) (x .2) pe es (w .0) (w .2)
+  pub item-on : (i : Item) (p e : ℕ) → p ≤ e → e ≤ length s → (x : Got (Value i)) → read i (slice p e s) p ≡ good x → Onward s p e (x .rest) (x .after)
+  item-on i p e pe es x h = let w = backward i (slice p e s) p x h in onward p e s (encode i (x .value)) (x .rest) (x .after) pe es (w .0) (w .2)
 
-  pub part-on : (m : Member) (p e : ℕ) → p ≤ e → e ≤ length s → (x : Got (Part m)) → readPart m (slice p e s) p ≡ good x → Onward s p e (x .1) (x .2)
-  part-on m p e pe es x h = let w = backwardPart m (slice p e s) p x h in onward p e s (encodePart m (x .0)) (x .1) (x .2) pe es (w .0) (w .2)
+  pub part-on : (m : Member) (p e : ℕ) → p ≤ e → e ≤ length s → (x : Got (Part m)) → readPart m (slice p e s) p ≡ good x → Onward s p e (x .rest) (x .after)
+  part-on m p e pe es x h = let w = backwardPart m (slice p e s) p x h in onward p e s (encodePart m (x .value)) (x .rest) (x .after) pe es (w .0) (w .2)
 
   mutual
     unfolding scan read headAt readOption readFlag readEither
 
     pub scan-read : (i : Item) (p e : ℕ) → p ≤ e → e ≤ length s → scan i s p e ≡ step (read i (slice p e s) p)
     scan-read (leaf l) p e pe es =
-        rw (leaf-agree (l .tag) (l .rule) p e pe es) (seen-bind (λ x. x .2) _ _ _ λ c h. refl)
+        rw (leaf-agree (l .tag) (l .rule) p e pe es) (seen-bind (λ x. x .after) _ _ _ λ c h. refl)
     scan-read (node t r) p e pe es =
-        seen-bind (λ x. x .2) _ _ _ λ c h.
+        seen-bind (λ x. x .after) _ _ _ λ c h.
         let b = head-parts t p e pe es c h in
-        let d : c .2 ≤ next c = omega arith in
+        let d : c .start ≤ next c = omega arith in
         let d′ : next c ≤ length s = omega arith in
-        rw (scans-read r (c .2) (next c) d d′, ← b .0) (out-map (λ x. next c) (λ x. x .2) _ _ λ v. refl)
+        rw (scans-read r (c .start) (next c) d d′, ← b .0) (out-map (λ x. next c) (λ x. x .after) _ _ λ v. refl)
     scan-read (list t k n f i) p e pe es =
-        seen-bind (λ x. x .2) _ _ _ λ c h.
+        seen-bind (λ x. x .after) _ _ _ λ c h.
         let b = head-parts t p e pe es c h in
-        let d : c .2 ≤ next c = omega arith in
+        let d : c .start ≤ next c = omega arith in
         let d′ : next c ≤ length s = omega arith in
-        let m = many-agree (λ q. scan i s q (next c)) (λ x q. read i x q) (next c) d′ (λ q g. scan-read i q (next c) g d′) (λ q g. item-on i q (next c) g d′) n (c .2) d in
-        rw (enough-agree k (c .2) (next c) d d′, m, ← b .0)
-        (out-need (λ x. x .2) (enough k (c .0)) no-item p _ _ (out-map (λ x. next c) (λ x. x .2) _ _ λ v. refl))
+        let m = many-agree (λ q. scan i s q (next c)) (λ x q. read i x q) (next c) d′ (λ q g. scan-read i q (next c) g d′) (λ q g. item-on i q (next c) g d′) n (c .start) d in
+        rw (enough-agree k (c .start) (next c) d d′, m, ← b .0)
+        (out-need (λ x. x .after) (enough k (c .content)) no-item p _ _ (out-map (λ x. next c) (λ x. x .after) _ _ λ v. refl))
     scan-read (wrap t i) p e pe es =
-        seen-bind (λ x. x .2) _ _ _ λ c h.
+        seen-bind (λ x. x .after) _ _ _ λ c h.
         let b = head-parts t p e pe es c h in
-        let d : c .2 ≤ next c = omega arith in
+        let d : c .start ≤ next c = omega arith in
         let d′ : next c ≤ length s = omega arith in
-        rw (scan-read i (c .2) (next c) d d′)
-        (rw (← b .0) (out-bind (λ x. x .2) (λ x. x .2) _ _ _ λ a g.
-        let o = item-on i (c .2) (next c) d d′ a (rw (← b .0) g) in
-        rw (close-agree (a .2) (next c) (o .2) d′, ← o .0) (out-map (λ x. next c) (λ x. x .2) _ _ λ v. refl)))
+        rw (scan-read i (c .start) (next c) d d′)
+        (rw (← b .0) (out-bind (λ x. x .after) (λ x. x .after) _ _ _ λ a g.
+        let o = item-on i (c .start) (next c) d d′ a (rw (← b .0) g) in
+        rw (close-agree (a .after) (next c) (o .2) d′, ← o .0) (out-map (λ x. next c) (λ x. x .after) _ _ λ v. refl)))
 
     pub scans-read : (r : Members) (p e : ℕ) → p ≤ e → e ≤ length s → scans r s p e ≡ whole e (reads r (slice p e s) p)
     scans-read end p e pe es = close-agree p e pe es
     scans-read (m ▸ r) p e pe es =
         rw (part-read m p e pe es)
-        (out-bind (λ x. x .2) (λ x. e) _ _ _ λ a h.
+        (out-bind (λ x. x .after) (λ x. e) _ _ _ λ a h.
         let o = part-on m p e pe es a h in
-        rw (scans-read r (a .2) e (o .2) es, ← o .0) (out-map (λ x. e) (λ x. e) _ _ λ a. refl))
+        rw (scans-read r (a .after) e (o .2) es, ← o .0) (out-map (λ x. e) (λ x. e) _ _ λ a. refl))
 
     pub part-read : (m : Member) (p e : ℕ) → p ≤ e → e ≤ length s → scanPart m s p e ≡ step (readPart m (slice p e s) p)
     part-read (known k) p e pe es =
-        rw (leaf-agree (k .leaf .tag) (knownRule k) p e pe es) (seen-bind (λ x. x .2) _ _ _ λ c h. refl)
+        rw (leaf-agree (k .leaf .tag) (knownRule k) p e pe es) (seen-bind (λ x. x .after) _ _ _ λ c h. refl)
     part-read (one f i) p e pe es = scan-read i p e pe es
     part-read (maybe f i) p e pe es =
         rw (begins-agree (tagOf i) p e pe es, scan-read i p e pe es)
-        (out-pick (λ x. x .2) (begins (tagOf i) (slice p e s)) _ _ _ _ (out-map (λ x. x .2) (λ x. x .2) _ _ λ a. refl) refl)
+        (out-pick (λ x. x .after) (begins (tagOf i) (slice p e s)) _ _ _ _ (out-map (λ x. x .after) (λ x. x .after) _ _ λ a. refl) refl)
     part-read (flag f) p e pe es =
         rw (begins-agree (boolean .tag) p e pe es, leaf-agree (boolean .tag) (boolean .rule) p e pe es)
-        (out-pick (λ x. x .2) (begins (boolean .tag) (slice p e s)) _ _ _ _ (seen-bind (λ x. x .2) _ _ _ λ c h. refl) refl)
+        (out-pick (λ x. x .after) (begins (boolean .tag) (slice p e s)) _ _ _ _ (seen-bind (λ x. x .after) _ _ _ λ c h. refl) refl)
     part-read (choose f l t g i j) p e pe es =
         rw (leaf-agree (l .tag) (l .rule) p e pe es)
-        (seen-bind (λ x. x .2) _ _ _ λ c h.
+        (seen-bind (λ x. x .after) _ _ _ λ c h.
         let b = leaf-parts (l .tag) (l .rule) p e pe es c h in
         rw (← b .0, scan-read i (next c) e (b .3) es, scan-read j (next c) e (b .3) es, ← b .1)
-        (choose-read (λ x q. read i x q) (λ x q. read j x q) (t (c .0)) (c .0) (c .1) (next c)))
+        (choose-read (λ x q. read i x q) (λ x q. read j x q) (t (c .content)) (c .content) (c .rest) (next c)))
 
   -- ---- records
 
@@ -249,13 +249,13 @@ module _ (s : List ℕ) where
     pub record-read : recordScan most r s p e ≡ step (recordAt most r (slice p e s) p)
     unfolding recordScan recordAt outermostAt
     record-read =
-        seen-bind (λ x. x .2) _ _ _ λ c h.
+        seen-bind (λ x. x .after) _ _ _ λ c h.
         let b = outermost-parts c h in
-        let d : c .2 ≤ next c = omega arith in
+        let d : c .start ≤ next c = omega arith in
         let d′ : next c ≤ length s = omega arith in
-        rw (scans-read r (c .2) (next c) d d′, ← b .0) (out-map (λ x. next c) (λ x. x .2) _ _ λ v. refl)
+        rw (scans-read r (c .start) (next c) d d′, ← b .0) (out-map (λ x. next c) (λ x. x .after) _ _ λ v. refl)
 
-    record-on : (x : Got (Values r)) → recordAt most r (slice p e s) p ≡ good x → (x .1 ≡ slice (x .2) e s) × (x .2 ≤ e)
+    record-on : (x : Got (Values r)) → recordAt most r (slice p e s) p ≡ good x → (x .rest ≡ slice (x .after) e s) × (x .after ≤ e)
     unfolding recordAt
     record-on x h =
         by-bind _ _ _ h λ c e₁ e₂.
@@ -269,6 +269,6 @@ unfolding wholeScan accept
 whole-accept most r s =
     let w : slice 0 (length s) s ≡ s = take-length s in
     rw (record-read s most r 0 (length s) (omega arith) (omega arith), w)
-    (out-bind (λ x. x .2) (λ x. length s) _ _ _ λ a g.
+    (out-bind (λ x. x .after) (λ x. length s) _ _ _ λ a g.
     let o = record-on s most r 0 (length s) (omega arith) (omega arith) a (rw w g) in
-    rw (close-agree s (a .2) (length s) (o .1) (omega arith), ← o .0) (out-map (λ x. length s) (λ x. length s) _ _ λ u. refl))
+    rw (close-agree s (a .after) (length s) (o .1) (omega arith), ← o .0) (out-map (λ x. length s) (λ x. length s) _ _ λ u. refl))

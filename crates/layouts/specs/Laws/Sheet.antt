@@ -10,16 +10,16 @@ use lib.ListN.{length, take, drop, length-append, take-append-drop}
 use lib.Seq.{take-append-seam, drop-append-seam, length-take-le}
 use lib.Dec.{T, leb, ltb, eqb, eqb→eq, leb→le, ltb→lt}
 use borrow.Author.Tests.{le-leb}
-use Rattle.terms.specs.Answer.{Res, good, Got, pick, bind, need, have, enough, same}
+use Rattle.terms.specs.Answer.{Res, good, Got, got, pick, bind, need, have, enough, same}
 use Rattle.terms.specs.Laws.Answer.{good-inj, test, and-l, and-r, pick-yes, pick-no, by-bind, by-need, by-have, same-eq}
 use Rattle.terms.specs.Laws.Digits.{leading-there, leading-back, length-digits}
-use Rattle.heads.specs.Head.{Cut, tlv, unspelled}
+use Rattle.heads.specs.Head.{Cut, cutOff, tlv, unspelled}
 use Rattle.heads.specs.Laws.Head.{length-tlv, octets-some}
 use Rattle.contents.specs.Content.{fine, Leaf, judge}
 use Rattle.contents.specs.Laws.Leaves.{by-judge}
 use Rattle.layouts.specs.Layout.{Item, leaf, node, list, wrap, Members, end, _▸_, Member, known, one, maybe, flag, choose, All, InOption, InEither, Ok, Oks, OkPart, each, option, either, critical, encode, encodes, encodePart}
 use Rattle.layouts.specs.Reading.{next, readEither}
-use Rattle.layouts.specs.Sheet.{count-bytes, count, section, bit, sheetOption, sheetList, sheet, sheets, sheetPart, readCount, readSection, fillLeaf, times, unbit, fillFlag, fillOption, fillList, fill, fills, fillPart}
+use Rattle.layouts.specs.Sheet.{count-bytes, count, section, criticalByte, sheetOption, sheetList, sheet, sheets, sheetPart, readCount, readSection, fillLeaf, times, criticalIn, fillFlag, fillOption, fillList, fill, fills, fillPart}
 use Rattle.layouts.specs.Laws.Reading.{tells, spare, clear, clears, clearPart, Written, Backward, glue, either-back}
 
 -- ---- counts and sections
@@ -44,13 +44,13 @@ length-section : (x : List ℕ) → length (section x) ≡ count-bytes + length 
 unfolding section
 length-section x = omega (arith, length-append (count (length x)) x, length-count (length x))
 
-section-there : (x w : List ℕ) (p : ℕ) → length x < uncounted → readSection (section x ++ w) p ≡ good (x, w, p + count-bytes)
+section-there : (x w : List ℕ) (p : ℕ) → length x < uncounted → readSection (section x ++ w) p ≡ good (cutOff x w (p + count-bytes))
 unfolding readSection section bind need
 section-there x w p h =
     let e : length x ≤ length (x ++ w) = rw length-append (omega arith) in
     rw (append-assoc (count (length x)) x w, count-there (length x) p (x ++ w) h, le-leb (length x) (length (x ++ w)) e, take-append-seam, drop-append-seam)
 
-section-back : (w : List ℕ) (p : ℕ) (c : Cut) → readSection w p ≡ good c → (w ≡ section (c .0) ++ c .1) × (next c ≡ p + length (section (c .0)))
+section-back : (w : List ℕ) (p : ℕ) (c : Cut) → readSection w p ≡ good c → (w ≡ section (c .content) ++ c .rest) × (next c ≡ p + length (section (c .content)))
 unfolding readSection section
 section-back w p x e =
     by-bind _ _ _ e λ n e₁ e₂. by-need _ _ _ _ _ e₂ λ h e₃.
@@ -62,49 +62,49 @@ section-back w p x e =
 -- ---- what the laws say of a sheet's reader and writer
 
 abbrev Filled : {A : Type 0} → (List ℕ → ℕ → Res (Got A)) → (A → List ℕ) → (A → Type 0) → Type 0
-Filled {A} f e P = (a : A) → P a → (w : List ℕ) (p : ℕ) → length (e a) < uncounted → f (e a ++ w) p ≡ good (a, w, p + length (e a))
+Filled {A} f e P = (a : A) → P a → (w : List ℕ) (p : ℕ) → length (e a) < uncounted → f (e a ++ w) p ≡ good (got a w (p + length (e a)))
 
 leaf-filled : (l : Leaf) → Filled (fillLeaf l) (λ c. section (l .pack c)) (λ c. l .rule c ≡ fine)
 unfolding fillLeaf bind have judge
 leaf-filled l c ok w p h =
     let m = length-section (l .pack c) in
-    rw (section-there (l .pack c) w p (omega arith), l .there c ok, ok) (ap (λ (m : ℕ). good (c, w, m)) (omega arith))
+    rw (section-there (l .pack c) w p (omega arith), l .there c ok, ok) (ap (λ (m : ℕ). good (got c w m)) (omega arith))
 
 leaf-unfilled : (l : Leaf) → Backward (fillLeaf l) (λ c. section (l .pack c)) (λ c. l .rule c ≡ fine)
 unfolding fillLeaf
 leaf-unfilled l w p x e =
     by-bind _ _ _ e λ c e₁ e₂. by-bind _ _ _ e₂ λ k e₃ e₄. by-judge _ _ _ _ _ e₄ λ ok e₅. by-have _ _ _ _ e₃ λ u.
     let q = section-back w p c e₁ in
-    rw (← good-inj e₅, l .back (c .0) k u) (q .0, ok, q .1)
+    rw (← good-inj e₅, l .back (c .content) k u) (q .0, ok, q .1)
 
 -- ---- the flag
 
-unbit-bit : (v : Bool) → unbit (bit v) ≡ some v
-unfolding unbit bit pick same
-unbit-bit true = refl
-unbit-bit false = refl
+criticalIn-byte : (v : Bool) → criticalIn (criticalByte v) ≡ some v
+unfolding criticalIn criticalByte pick same
+criticalIn-byte true = refl
+criticalIn-byte false = refl
 
-bit-unbit : (x : List ℕ) (v : Bool) → unbit x ≡ some v → bit v ≡ x
-unfolding unbit bit
-bit-unbit x v e =
+byte-criticalIn : (x : List ℕ) (v : Bool) → criticalIn x ≡ some v → criticalByte v ≡ x
+unfolding criticalIn criticalByte
+byte-criticalIn x v e =
     test (same x (0 ∷ []))
     (λ h. let q : some false ≡ some v = sym (pick-yes (same x (0 ∷ [])) _ _ h) ∙ e in let u : false ≡ v = cc in rw (← u) (sym (same-eq x (0 ∷ []) h)))
     (λ h. test (same x (1 ∷ []))
     (λ g. let q : some true ≡ some v = sym (pick-yes (same x (1 ∷ [])) _ _ g) ∙ sym (pick-no (same x (0 ∷ [])) _ _ h) ∙ e in let u : true ≡ v = cc in rw (← u) (sym (same-eq x (1 ∷ []) g)))
     (λ g. let q : none ≡ some v = sym (pick-no (same x (1 ∷ [])) _ _ g) ∙ sym (pick-no (same x (0 ∷ [])) _ _ h) ∙ e in let z : _≡_ {A = ℕ} 0 1 = cc in let y : ⊥ = omega arith in absurd y))
 
-flag-filled : Filled fillFlag (λ v. section (bit v)) (λ v. Unit {0})
+flag-filled : Filled fillFlag (λ v. section (criticalByte v)) (λ v. Unit {0})
 unfolding fillFlag bind have
 flag-filled v ok w p h =
-    let m = length-section (bit v) in
-    rw (section-there (bit v) w p (omega arith), unbit-bit v) (ap (λ (m : ℕ). good (v, w, m)) (omega arith))
+    let m = length-section (criticalByte v) in
+    rw (section-there (criticalByte v) w p (omega arith), criticalIn-byte v) (ap (λ (m : ℕ). good (got v w m)) (omega arith))
 
-flag-unfilled : Backward fillFlag (λ v. section (bit v)) (λ v. Unit {0})
+flag-unfilled : Backward fillFlag (λ v. section (criticalByte v)) (λ v. Unit {0})
 unfolding fillFlag
 flag-unfilled w p x e =
     by-bind _ _ _ e λ c e₁ e₂. by-bind _ _ _ e₂ λ v e₃ e₄. by-have _ _ _ _ e₃ λ u.
     let q = section-back w p c e₁ in
-    rw (← good-inj e₄, bit-unbit (c .0) v u) (q .0, tt, q .1)
+    rw (← good-inj e₄, byte-criticalIn (c .content) v u) (q .0, tt, q .1)
 
 -- ---- options and lists
 
@@ -124,11 +124,11 @@ module _ {A : Type 0} (f : List ℕ → ℕ → Res (Got A)) (e : A → List ℕ
   option-filled : Filled f e P → Filled (fillOption f) (sheetOption e) (InOption P)
   unfolding fillOption sheetOption bind pick need
   option-filled fw none ok w p h =
-      rw (count-there 0 p w (omega arith)) (ap (λ (m : ℕ). good (none, w, m)) (omega (arith, length-count 0)))
+      rw (count-there 0 p w (omega arith)) (ap (λ (m : ℕ). good (got none w m)) (omega (arith, length-count 0)))
   option-filled fw (some a) ok w p h =
       let m = length-append (count 1) (e a) in
       let n = length-count 1 in
-      rw (append-assoc (count 1) (e a) w, count-there 1 p (e a ++ w) (omega arith), fw a ok w (p + 4) (omega arith)) (ap (λ (m : ℕ). good (some a, w, m)) (omega arith))
+      rw (append-assoc (count 1) (e a) w, count-there 1 p (e a ++ w) (omega arith), fw a ok w (p + 4) (omega arith)) (ap (λ (m : ℕ). good (got (some a) w m)) (omega arith))
 
   option-unfilled : Backward f e P → Backward (fillOption f) (sheetOption e) (InOption P)
   unfolding fillOption sheetOption
@@ -141,25 +141,25 @@ module _ {A : Type 0} (f : List ℕ → ℕ → Res (Got A)) (e : A → List ℕ
       (λ h. by-need _ _ _ _ _ (sym (pick-no (eqb (n .0) 0) _ _ h) ∙ e₂) λ g e₃. by-bind _ _ _ e₃ λ a e₄ e₅.
       let z = eqb→eq (n .0) 1 g in
       let b = bw (n .1) (p + 4) a e₄ in
-      let y = glue w (count 1) (e (a .0)) (n .1) (a .1) p (p + 4) (a .2) (rw z at c) (b .0) (omega (arith, length-count 1)) (b .2) in
+      let y = glue w (count 1) (e (a .value)) (n .1) (a .rest) p (p + 4) (a .after) (rw z at c) (b .0) (omega (arith, length-count 1)) (b .2) in
       rw (← good-inj e₅) (y .0, b .1, y .1))
 
-  times-filled : Filled f e P → (xs : List A) → All P xs → (w : List ℕ) (p : ℕ) → length (each e xs) < uncounted → times f (length xs) (each e xs ++ w) p ≡ good (xs, w, p + length (each e xs))
+  times-filled : Filled f e P → (xs : List A) → All P xs → (w : List ℕ) (p : ℕ) → length (each e xs) < uncounted → times f (length xs) (each e xs ++ w) p ≡ good (got xs w (p + length (each e xs)))
   unfolding times each bind
-  times-filled fw [] ok w p h = ap (λ (m : ℕ). good ([], w, m)) (omega arith)
+  times-filled fw [] ok w p h = ap (λ (m : ℕ). good (got [] w m)) (omega arith)
   times-filled fw (x ∷ xs) ok w p h =
       let m = length-append (e x) (each e xs) in
       rw (append-assoc (e x) (each e xs) w, fw x (ok .0) (each e xs ++ w) p (omega arith), times-filled fw xs (ok .1) w (p + length (e x)) (omega arith))
-      (ap (λ (m : ℕ). good (x ∷ xs, w, m)) (omega arith))
+      (ap (λ (m : ℕ). good (got (x ∷ xs) w m)) (omega arith))
 
-  times-unfilled : Backward f e P → (n : ℕ) (w : List ℕ) (p : ℕ) (x : Got (List A)) → times f n w p ≡ good x → (length (x .0) ≡ n) × Written (each e) (All P) w p x
+  times-unfilled : Backward f e P → (n : ℕ) (w : List ℕ) (p : ℕ) (x : Got (List A)) → times f n w p ≡ good x → (length (x .value) ≡ n) × Written (each e) (All P) w p x
   unfolding times each
   times-unfilled bw zero w p x q = rw (← good-inj q) (refl, (refl, tt, omega arith))
   times-unfilled bw (suc n) w p x q =
       by-bind _ _ _ q λ a e₁ e₂. by-bind _ _ _ e₂ λ b e₃ e₄.
       let u = bw w p a e₁ in
-      let v = times-unfilled bw n (a .1) (a .2) b e₃ in
-      let y = glue w (e (a .0)) (each e (b .0)) (a .1) (b .1) p (a .2) (b .2) (u .0) (v .1 .0) (u .2) (v .1 .2) in
+      let v = times-unfilled bw n (a .rest) (a .after) b e₃ in
+      let y = glue w (e (a .value)) (each e (b .value)) (a .rest) (b .rest) p (a .after) (b .after) (u .0) (v .1 .0) (u .2) (v .1 .2) in
       rw (← good-inj e₄) (ap suc (v .0), (y .0, (u .1, v .1 .1), y .1))
 
   list-filled : Filled f e P → (k : Bool) (m : ℕ) → m < 65536 → Filled (fillList k m f) (sheetList e) (λ xs. T (enough k xs) × (length xs ≤ m) × All P xs)
@@ -169,7 +169,7 @@ module _ {A : Type 0} (f : List ℕ → ℕ → Res (Got A)) (e : A → List ℕ
       let c = length-count (length xs) in
       let g : length xs ≤ m = ok .1 in
       rw (append-assoc (count (length xs)) (each e xs) w, count-there (length xs) p (each e xs ++ w) (omega arith), enough-count k xs (ok .0), le-leb (length xs) m g, times-filled fw xs (ok .2) w (p + 4) (omega arith))
-      (ap (λ (m : ℕ). good (xs, w, m)) (omega arith))
+      (ap (λ (m : ℕ). good (got xs w m)) (omega arith))
 
   list-unfilled : Backward f e P → (k : Bool) (m : ℕ) → Backward (fillList k m f) (sheetList e) (λ xs. T (enough k xs) × (length xs ≤ m) × All P xs)
   unfolding fillList sheetList
@@ -177,9 +177,9 @@ module _ {A : Type 0} (f : List ℕ → ℕ → Res (Got A)) (e : A → List ℕ
       by-bind _ _ _ q λ n e₁ e₂. by-need _ _ _ _ _ e₂ λ h e₃. by-need _ _ _ _ _ e₃ λ g e₄.
       let c = count-back w p n e₁ in
       let t = times-unfilled bw (n .0) (n .1) (p + 4) x e₄ in
-      let y = glue w (count (n .0)) (each e (x .0)) (n .1) (x .1) p (p + 4) (x .2) c (t .1 .0) (omega (arith, length-count (n .0))) (t .1 .2) in
+      let y = glue w (count (n .0)) (each e (x .value)) (n .1) (x .rest) p (p + 4) (x .after) c (t .1 .0) (omega (arith, length-count (n .0))) (t .1 .2) in
       let l : n .0 ≤ m = leb→le (n .0) m g in
-      (rw (t .0) (y .0), (count-enough k (x .0) (rw (t .0) h), omega arith, t .1 .1), rw (t .0) (y .1))
+      (rw (t .0) (y .0), (count-enough k (x .value) (rw (t .0) h), omega arith, t .1 .1), rw (t .0) (y .1))
 
 module _ {A B : Type 0} (f : List ℕ → ℕ → Res (Got A)) (e : A → List ℕ) (P : A → Type 0) (g : List ℕ → ℕ → Res (Got B)) (d : B → List ℕ) (Q : B → Type 0) (t : Bool) where
   either-filled : Filled f e P → Filled g d Q → Filled (readEither t f g) (either e d) (InEither t P Q)
@@ -201,17 +201,17 @@ mutual
   filled (wrap t i) k v ok w p h = filled i k v ok w p h
 
   pub filleds : (r : Members) → T (clears r) → Filled (λ w p. fills r w p) (λ v. sheets r v) (λ v. Oks r v)
-  filleds end k v ok w p h = ap (λ (m : ℕ). good (v, w, m)) (omega arith)
+  filleds end k v ok w p h = ap (λ (m : ℕ). good (got v w m)) (omega arith)
   filleds (m ▸ r) k v ok w p h =
       let x : List ℕ = sheetPart m (v .0) in
       let y : List ℕ = sheets r (v .1) in
       let n = length-append x y in
       let k′ = and-r (tells m r) (clearPart m && clears r) k in
       rw (append-assoc x y w, filledPart m (and-l (clearPart m) (clears r) k′) (v .0) (ok .0) (y ++ w) p (omega arith), filleds r (and-r (clearPart m) (clears r) k′) (v .1) (ok .1) w (p + length x) (omega arith))
-      (ap (λ (m : ℕ). good (v, w, m)) (omega arith))
+      (ap (λ (m : ℕ). good (got v w m)) (omega arith))
 
   pub filledPart : (m : Member) → T (clearPart m) → Filled (λ w p. fillPart m w p) (λ v. sheetPart m v) (λ v. OkPart m v)
-  filledPart (known x) k v ok w p h = ap (λ (m : ℕ). good (v, w, m)) (omega arith)
+  filledPart (known x) k v ok w p h = ap (λ (m : ℕ). good (got v w m)) (omega arith)
   filledPart (one f i) k v ok w p h = filled i k v ok w p h
   filledPart (maybe f i) k v ok w p h = option-filled (λ x q. fill i x q) (λ x. sheet i x) (λ x. Ok i x) (λ x o w q g. filled i k x o w q g) v ok w p h
   filledPart (flag f) k v ok w p h = flag-filled v ok w p h
@@ -226,7 +226,7 @@ mutual
             (λ x o w q g. filled i (and-l (clear i) (clear j) k) x o w q g) (λ x o w q g. filled j (and-r (clear i) (clear j) k) x o w q g)
             (v .1) (ok .1) w (p + length x) (omega arith),
       )
-      (ap (λ (m : ℕ). good (v, w, m)) (omega arith))
+      (ap (λ (m : ℕ). good (got v w m)) (omega arith))
 
 mutual
   unfolding fill sheet
@@ -242,8 +242,8 @@ mutual
   unfilleds (m ▸ r) w p x q =
       by-bind _ _ _ q λ a e₁ e₂. by-bind _ _ _ e₂ λ b e₃ e₄.
       let u = unfilledPart m w p a e₁ in
-      let v = unfilleds r (a .1) (a .2) b e₃ in
-      let y = glue w (sheetPart m (a .0)) (sheets r (b .0)) (a .1) (b .1) p (a .2) (b .2) (u .0) (v .0) (u .2) (v .2) in
+      let v = unfilleds r (a .rest) (a .after) b e₃ in
+      let y = glue w (sheetPart m (a .value)) (sheets r (b .value)) (a .rest) (b .rest) p (a .after) (b .after) (u .0) (v .0) (u .2) (v .2) in
       rw (← good-inj e₄) (y .0, (u .1, v .1), y .1)
 
   pub unfilledPart : (m : Member) → Backward (λ w p. fillPart m w p) (λ v. sheetPart m v) (λ v. OkPart m v)
@@ -254,8 +254,8 @@ mutual
   unfilledPart (choose f l t g i j) w p x q =
       by-bind _ _ _ q λ c e₁ e₂. by-bind _ _ _ e₂ λ a e₃ e₄.
       let s = leaf-unfilled l w p c e₁ in
-      let u = either-back (λ x q. fill i x q) (λ x. sheet i x) (λ x. Ok i x) (λ x q. fill j x q) (λ x. sheet j x) (λ x. Ok j x) (t (c .0)) (λ y p z g. unfilled i y p z g) (λ y p z g. unfilled j y p z g) (c .1) (c .2) a e₃ in
-      let z = glue w (section (l .pack (c .0))) (either (λ x. sheet i x) (λ x. sheet j x) (a .0)) (c .1) (a .1) p (c .2) (a .2) (s .0) (u .0) (s .2) (u .2) in
+      let u = either-back (λ x q. fill i x q) (λ x. sheet i x) (λ x. Ok i x) (λ x q. fill j x q) (λ x. sheet j x) (λ x. Ok j x) (t (c .value)) (λ y p z g. unfilled i y p z g) (λ y p z g. unfilled j y p z g) (c .rest) (c .after) a e₃ in
+      let z = glue w (section (l .pack (c .value))) (either (λ x. sheet i x) (λ x. sheet j x) (a .value)) (c .rest) (a .rest) p (c .after) (a .after) (s .0) (u .0) (s .2) (u .2) in
       rw (← good-inj e₄) (z .0, (s .1, u .1), z .1)
 
 -- ---- a sheet is not much longer than its record
@@ -289,8 +289,8 @@ unfolding either
 either-short f g d e s k (inl a) h = s a h
 either-short f g d e s k (inr b) h = k b h
 
-flag-short : Short 5 (λ v. section (bit v)) critical
-unfolding bit
+flag-short : Short 5 (λ v. section (criticalByte v)) critical
+unfolding criticalByte
 flag-short true h = omega (arith, length-section (1 ∷ []))
 flag-short false h = omega (arith, length-section (0 ∷ []))
 

@@ -3,7 +3,7 @@ use mathlib.Core.Path.{_≡_, refl}
 use Prim.Native.Nat.{ℕ}
 use mathlib.Core.List.{List, [], _∷_, _++_}
 use lib.ListN.{set, take, drop}
-use Rattle.terms.specs.declared.Field.the-variants.{SealInformation, Header, Vendor, SealId, Property, SealType, SealName, ListKind, CertificateList, ListedCertificate, ListedEntry, ListedName, ListedDigest, Created, Start, End, Picture, PictureType, PictureData, Width, Height, SealCustomData, SealCustomItem, SealCustomId, SealCustomCritical, SealCustomValue, MakerCertificate, SealAlgorithm, SealSignedValue, SignedPart, Seal, SigningTime, OriginalDigest, PropertyText, SignedCustomData, SignedCustomItem, SignedCustomId, SignedCustomCritical, SignedCustomValue, SignerCertificate, SignatureAlgorithm, SignatureValue, Stamp}
+use Rattle.terms.specs.declared.Field.the-variants.{SealInformation, Header, Vendor, SealId, Property, SealType, SealName, ListKind, CertificateList, ListedCertificate, ListedEntry, ListedType, ListedDigest, Created, Start, End, Picture, PictureType, PictureData, Width, Height, SealCustomData, SealCustomItem, SealCustomId, SealCustomCritical, SealCustomValue, MakerCertificate, SealAlgorithm, SealSignedValue, SignedPart, Seal, SigningTime, OriginalDigest, PropertyText, SignedCustomData, SignedCustomItem, SignedCustomId, SignedCustomCritical, SignedCustomValue, SignerCertificate, SignatureAlgorithm, SignatureValue, Stamp}
 use Rattle.terms.specs.Numbers.{absent, bad-length, item-missing}
 use Rattle.terms.specs.Answer.{told-none, refusal}
 use Rattle.terms.specs.Laws.Table.{Row, asks, answers, agreed}
@@ -28,9 +28,9 @@ partsD =
     ∷ (fieldAnswer signature Vendor 0 recordD, at 26 4)
     ∷ (fieldAnswer signature SealId 0 recordD, at 32 2)
     ∷ (fieldAnswer signature SealName 0 recordD, at 41 3)
-    ∷ (fieldAnswer signature ListedName 0 recordD, at 53 3)
+    ∷ (fieldAnswer signature ListedType 0 recordD, at 53 3)
     ∷ (fieldAnswer signature ListedDigest 0 recordD, at 58 2)
-    ∷ (fieldAnswer signature ListedName 1 recordD, at 64 2)
+    ∷ (fieldAnswer signature ListedType 1 recordD, at 64 2)
     ∷ (fieldAnswer signature ListedDigest 1 recordD, at 68 1)
     ∷ (fieldAnswer signature Created 0 recordD, at 71 15)
     ∷ (fieldAnswer signature Start 0 recordD, at 88 15)

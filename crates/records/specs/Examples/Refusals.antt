@@ -3,7 +3,7 @@ use mathlib.Core.Path.{_≡_}
 use Prim.Native.Nat.{ℕ, suc, zero}
 use mathlib.Core.List.{List, [], _∷_, _++_}
 use lib.ListN.{set, take, drop}
-use Rattle.terms.specs.declared.Field.the-variants.{CertificateList, ListedName, ListedDigest}
+use Rattle.terms.specs.declared.Field.the-variants.{CertificateList, ListedType, ListedDigest}
 use Rattle.terms.specs.Numbers.{done, item-missing, other-tag, bad-length, past-end, left-over, bad-integer, not-allowed, not-es, bad-character, bad-time, bad-identifier, bad-bits, bad-boolean, no-bytes, no-item, too-many-items, too-large}
 use Rattle.terms.specs.Answer.{Told, told-one, told-two, refusal}
 use Rattle.terms.specs.Laws.Table.{Row, asks, answers, agreed}
@@ -180,7 +180,7 @@ lists =
     (gets listOf0, refusal no-item 37)
     -- "May have no bytes: .. digest's PrintableString"
     ∷ (gets unnamed, told-one done 169)
-    ∷ (fieldAnswer signature ListedName 0 unnamed, told-two done 43 0)
+    ∷ (fieldAnswer signature ListedType 0 unnamed, told-two done 43 0)
     ∷ (fieldAnswer signature ListedDigest 0 unnamed, told-two done 45 1)
     ∷ (gets listOf64, told-one done 362)
     ∷ (countAnswer signature CertificateList listOf64, told-one done 64)

@@ -1,20 +1,20 @@
 -- What holds of seals and signature records beyond every layout: their layouts are clear, a signature's sheet begins with its seal's,
 -- and equal signed bytes are those of equal fields. Assumes nothing.
 use mathlib.Core.Path.{_≡_, refl, sym, ap, _∙_}
-use Prim.Native.Nat.{ℕ, _≤_, _<_}
+use Prim.Native.Nat.{ℕ, _+_, _≤_, _<_}
 use native.Mathlib.Omega.{arith}
-use mathlib.Core.List.{List, _++_, append-assoc}
+use mathlib.Core.List.{List, [], _++_, append-assoc, append-nil}
 use lib.ListN.{length, length-append}
 use lib.Dec.{T, leb}
 use Rattle.terms.specs.declared.Field.{Field}
 use Rattle.terms.specs.declared.Field.the-variants.{SignedPart, SealInformation}
 use Rattle.terms.specs.Names.{code, sameName}
 use Rattle.terms.specs.Numbers.{largest-record}
-use Rattle.terms.specs.Answer.{good, pick, enough}
-use Rattle.terms.specs.Laws.Answer.{and-l, and-r}
+use Rattle.terms.specs.Answer.{Res, good, pick, enough}
+use Rattle.terms.specs.Laws.Answer.{good-inj, and-l, and-r}
 use Rattle.terms.specs.Digits.{numberFrom}
-use Rattle.heads.specs.Head.{unspelled}
-use Rattle.heads.specs.Laws.Head.{length-tlv}
+use Rattle.heads.specs.Head.{Cut, cutOff, tlv, before, head, unspelled}
+use Rattle.heads.specs.Laws.Head.{length-tlv, head-tlv}
 use Rattle.contents.specs.Content.{ask, passes}
 use Rattle.contents.specs.Integer.{sign, shortest, wellFormed, value, turned}
 use Rattle.contents.specs.Text.{within, starts, follows, textFrom}
@@ -90,3 +90,15 @@ equal-signature w x u v e g h =
 pub equal-seal : (w x : List ℕ) (u v : Values seal) → readRecord seal w ≡ good u → readRecord seal x ≡ good v
     → signedBytes SealInformation seal u ≡ signedBytes SealInformation seal v → informationOf u ≡ informationOf v
 equal-seal w x u v e g h = same-first SealInformation sealInformation _ seal-clear w x u v e g (sym (signed-seal u) ∙ h ∙ signed-seal v)
+
+-- "no record is the beginning of a longer one": a record's own length says where it ends, whatever its layout
+pub no-beginning : (r q : Members) (w x : List ℕ) (u : Values r) (v : Values q) → readRecord r w ≡ good u → readRecord q x ≡ good v → (rest : List ℕ) → w ++ rest ≡ x → rest ≡ []
+no-beginning r q w x u v e g rest h =
+    let a = accept-back largest-record r w u e in
+    let b = accept-back largest-record q x v g in
+    let m : tlv sequence (encodes r u) ++ rest ≡ tlv sequence (encodes q v) ++ [] = ap (λ (y : List ℕ). y ++ rest) (sym (a .0)) ∙ h ∙ b .0 ∙ sym (append-nil (recordOf q v)) in
+    let c : _≡_ {A = Res Cut} (good (cutOff (encodes r u) rest (0 + before (length (encodes r u))))) (good (cutOff (encodes q v) [] (0 + before (length (encodes q v))))) =
+    sym (head-tlv sequence (encodes r u) rest 0 (omega (arith, a .2, ap length (a .0), length-tlv sequence (encodes r u))))
+    ∙ ap (λ (y : List ℕ). head sequence y 0) m
+    ∙ head-tlv sequence (encodes q v) [] 0 (omega (arith, b .2, ap length (b .0), length-tlv sequence (encodes q v))) in
+    ap (λ (y : Cut). y .rest) (good-inj c)

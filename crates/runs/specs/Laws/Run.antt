@@ -1,20 +1,21 @@
 -- A run of records reads back exactly its list, and every accepted run is such a list. Assumes nothing.
 use mathlib.Core.Path.{_≡_, refl, sym, ap, _∙_, subst}
-use Prim.Native.Nat.{ℕ, suc, zero, _+_, _-_, _≤_}
+use Prim.Native.Nat.{ℕ, suc, zero, _+_, _-_, _≤_, _<_}
 use native.Mathlib.Omega.{arith}
-use mathlib.Core.List.{List, [], _∷_, _++_, append-assoc}
-use lib.ListN.{length, drop, length-append}
-use lib.Seq.{drop-at}
-use lib.Dec.{T}
+use mathlib.Core.List.{List, [], _∷_, _++_, append-assoc, append-nil}
+use lib.ListN.{length, drop, replicate, length-append}
+use lib.Seq.{drop-at, drop-cons}
+use lib.Dec.{T, ltb, lt→ltb}
 use Rattle.terms.specs.Numbers.{largest-record, done, run-end}
-use Rattle.terms.specs.Answer.{Res, good, fault, Got, told-two, told-none}
+use Rattle.terms.specs.Answer.{Res, good, fault, Got, got, Told, told-two, told-none}
+use Rattle.terms.specs.Laws.Answer.{pick-yes}
 use Rattle.heads.specs.Head.{tlv, octets}
 use Rattle.heads.specs.Laws.Head.{length-tlv}
 use Rattle.layouts.specs.Layout.{Members, Values, All, each, encodes}
 use Rattle.layouts.specs.Whole.{sequence, recordOf, Allowed, recordAt}
 use Rattle.layouts.specs.Laws.Reading.{clears}
 use Rattle.layouts.specs.Laws.Whole.{recordAt-back, recordAt-there}
-use Rattle.runs.specs.Run.{runOf, Ran, whole, stopped, andThen, onward, runFrom, readRun, Reader, taken, ended, faulty, hereOf, hereIn, hereAt, oneMore, stepAfter, stepAnswer, refusal-after}
+use Rattle.runs.specs.Run.{runOf, Ran, whole, stopped, andThen, onward, runFrom, readRun, Reader, taken, ended, faulty, hereOf, hereIn, hereAt, made, top, oneMore, stepAfter, stepAnswer, refusal-after}
 
 -- a value whose record is accepted
 abbrev Accepted : (r : Members) → Values r → Type 0
@@ -45,7 +46,7 @@ module _ (r : Members) where
       cons-read k (recordOf r v ++ runOf r vs) b (record-cons v .0) (record-cons v .1 ++ runOf r vs) (ap (λ (y : List ℕ). y ++ runOf r vs) (record-cons v .2))
       ∙ rw (recordAt-there largest-record r c (omega arith) v (ok .0 .0) (ok .0 .1) (runOf r vs) b, runFrom-there c k vs (ok .1) (omega arith) (b + length (recordOf r v)))
     where
-      cons-read : (k : ℕ) (w : List ℕ) (b x : ℕ) (y : List ℕ) → w ≡ x ∷ y → runFrom (suc k) r w b ≡ (onward (recordAt largest-record r w b) λ a. andThen (a .0) (runFrom k r (a .1) (a .2)))
+      cons-read : (k : ℕ) (w : List ℕ) (b x : ℕ) (y : List ℕ) → w ≡ x ∷ y → runFrom (suc k) r w b ≡ (onward (recordAt largest-record r w b) λ a. andThen (a .value) (runFrom k r (a .rest) (a .after)))
       cons-read k w b x y e = rw e
 
   -- a run of encoded records reads back exactly its list
@@ -78,11 +79,11 @@ module _ (r : Members) where
   runFrom-back (suc k) (x ∷ w) b vs h e =
       by-onward _ _ vs e λ a e₁ e₂.
       let u = recordAt-back largest-record r (x ∷ w) b a e₁ in
-      let t = whole-cons (a .0) (runFrom k r (a .1) (a .2)) vs e₂ in
-      let l : suc (length w) ≡ length (recordOf r (a .0)) + length (a .1) = ap length (u .0) ∙ length-append (recordOf r (a .0)) (a .1) in
-      let s = record-some (a .0) in
-      let m = runFrom-back k (a .1) (a .2) (t .0) (omega arith) (t .1) in
-      rw (← t .2) (u .0 ∙ ap (λ (y : List ℕ). recordOf r (a .0) ++ y) (m .0), ((u .1, u .3), m .1))
+      let t = whole-cons (a .value) (runFrom k r (a .rest) (a .after)) vs e₂ in
+      let l : suc (length w) ≡ length (recordOf r (a .value)) + length (a .rest) = ap length (u .0) ∙ length-append (recordOf r (a .value)) (a .rest) in
+      let s = record-some (a .value) in
+      let m = runFrom-back k (a .rest) (a .after) (t .0) (omega arith) (t .1) in
+      rw (← t .2) (u .0 ∙ ap (λ (y : List ℕ). recordOf r (a .value) ++ y) (m .0), ((u .1, u .3), m .1))
 
   -- every accepted run is the bytes of its list
   pub run-back : (w : List ℕ) (vs : List (Values r)) → readRun r w ≡ whole vs → (w ≡ runOf r vs) × All (Accepted r) vs
@@ -104,20 +105,20 @@ module _ (r : Members) where
   runFrom-stops zero w b vs n p h e = let z : _≡_ {A = ℕ} 0 1 = cc in let y : ⊥ = omega arith in absurd y
   runFrom-stops (suc k) [] b vs n p h e = let z : _≡_ {A = ℕ} 0 1 = cc in let y : ⊥ = omega arith in absurd y
   runFrom-stops (suc k) (x ∷ w) b vs n p h e =
-      go (recordAt largest-record r (x ∷ w) b) refl e λ a us l g. runFrom-stops k (a .1) (a .2) us n p l g
+      go (recordAt largest-record r (x ∷ w) b) refl e λ a us l g. runFrom-stops k (a .rest) (a .after) us n p l g
     where
-      go : (y : Res (Got (Values r))) → recordAt largest-record r (x ∷ w) b ≡ y → (onward y λ a. andThen (a .0) (runFrom k r (a .1) (a .2))) ≡ stopped vs n p
-          → ((a : Got (Values r)) (us : List (Values r)) → length (a .1) ≤ k → runFrom k r (a .1) (a .2) ≡ stopped us n p → Stops (a .1) (a .2) us n p) → Stops (x ∷ w) b vs n p
+      go : (y : Res (Got (Values r))) → recordAt largest-record r (x ∷ w) b ≡ y → (onward y λ a. andThen (a .value) (runFrom k r (a .rest) (a .after))) ≡ stopped vs n p
+          → ((a : Got (Values r)) (us : List (Values r)) → length (a .rest) ≤ k → runFrom k r (a .rest) (a .after) ≡ stopped us n p → Stops (a .rest) (a .after) us n p) → Stops (x ∷ w) b vs n p
       go (good a) f g ih =
           let u = recordAt-back largest-record r (x ∷ w) b a f in
-          let t = stopped-cons (a .0) (runFrom k r (a .1) (a .2)) vs n p g in
-          let l : suc (length w) ≡ length (recordOf r (a .0)) + length (a .1) = ap length (u .0) ∙ length-append (recordOf r (a .0)) (a .1) in
-          let s = record-some (a .0) in
+          let t = stopped-cons (a .value) (runFrom k r (a .rest) (a .after)) vs n p g in
+          let l : suc (length w) ≡ length (recordOf r (a .value)) + length (a .rest) = ap length (u .0) ∙ length-append (recordOf r (a .value)) (a .rest) in
+          let s = record-some (a .value) in
           let i = ih a (t .0) (omega arith) (t .1) in
-          let m : a .2 + length (runOf r (t .0)) ≡ b + length (runOf r (a .0 ∷ t .0)) = omega (arith, u .2, length-append (recordOf r (a .0)) (runOf r (t .0))) in
+          let m : a .after + length (runOf r (t .0)) ≡ b + length (runOf r (a .value ∷ t .0)) = omega (arith, u .2, length-append (recordOf r (a .value)) (runOf r (t .0))) in
           rw (← t .2) (
             i .0,
-            u .0 ∙ ap (λ (y : List ℕ). recordOf r (a .0) ++ y) (i .1) ∙ sym (append-assoc (recordOf r (a .0)) (runOf r (t .0)) (i .0)),
+            u .0 ∙ ap (λ (y : List ℕ). recordOf r (a .value) ++ y) (i .1) ∙ sym (append-assoc (recordOf r (a .value)) (runOf r (t .0)) (i .0)),
             ((u .1, u .3), i .2),
             subst (λ (q : ℕ). hereIn r (i .0) q ≡ faulty n p) m (i .3),
           )
@@ -145,18 +146,18 @@ module _ (r : Members) where
   enough (suc k) [] b h = refl
   enough (suc k) (x ∷ w) b h = go (recordAt largest-record r (x ∷ w) b) λ a e.
       let u = recordAt-back largest-record r (x ∷ w) b a e in
-      let l : suc (length w) ≡ length (recordOf r (a .0)) + length (a .1) = ap length (u .0) ∙ length-append (recordOf r (a .0)) (a .1) in
-      let s = record-some (a .0) in
-      enough k (a .1) (a .2) (omega arith)
+      let l : suc (length w) ≡ length (recordOf r (a .value)) + length (a .rest) = ap length (u .0) ∙ length-append (recordOf r (a .value)) (a .rest) in
+      let s = record-some (a .value) in
+      enough k (a .rest) (a .after) (omega arith)
     where
-      go : (y : Res (Got (Values r))) → ((a : Got (Values r)) → y ≡ good a → runFrom (suc k) r (a .1) (a .2) ≡ runFrom k r (a .1) (a .2))
-          → (onward y λ a. andThen (a .0) (runFrom (suc k) r (a .1) (a .2))) ≡ (onward y λ a. andThen (a .0) (runFrom k r (a .1) (a .2)))
-      go (good a) f = ap (andThen (a .0)) (f a refl)
+      go : (y : Res (Got (Values r))) → ((a : Got (Values r)) → y ≡ good a → runFrom (suc k) r (a .rest) (a .after) ≡ runFrom k r (a .rest) (a .after))
+          → (onward y λ a. andThen (a .value) (runFrom (suc k) r (a .rest) (a .after))) ≡ (onward y λ a. andThen (a .value) (runFrom k r (a .rest) (a .after)))
+      go (good a) f = ap (andThen (a .value)) (f a refl)
       go (fault n p) f = refl
 
   -- ---- the run reader goes from record to record
 
-  pub here-there : T (clears r) → (s p : List ℕ) (v : Values r) (w : List ℕ) → Accepted r v → s ≡ p ++ (recordOf r v ++ w) → hereAt r s (length p) ≡ taken (v, w, length p + length (recordOf r v))
+  pub here-there : T (clears r) → (s p : List ℕ) (v : Values r) (w : List ℕ) → Accepted r v → s ≡ p ++ (recordOf r v ++ w) → hereAt r s (length p) ≡ taken (got v w (length p + length (recordOf r v)))
   unfolding hereAt hereIn
   here-there c s p v w ok e =
       let d : drop (length p) s ≡ recordOf r v ++ w = ap (drop (length p)) e ∙ drop-at p (recordOf r v ++ w) (length p) refl in
@@ -166,13 +167,31 @@ module _ (r : Members) where
       some-read : (y : List ℕ) (b x : ℕ) (z : List ℕ) → y ≡ x ∷ z → hereIn r y b ≡ hereOf (recordAt largest-record r y b)
       some-read y b x z e = rw e
 
+  -- at any other position it reads as if a record began there
   pub here-end : (s : List ℕ) (p : ℕ) → length s ≤ p → hereAt r s p ≡ ended
   unfolding hereAt hereIn
   here-end s p h = rw (lib.ListN.drop-of-length-le s {i = p} h)
 
+  pub here-inside : (s : List ℕ) (p : ℕ) → p < length s → hereAt r s p ≡ hereOf (recordAt largest-record r (drop p s) p)
+  unfolding hereAt hereIn
+  here-inside s p h = rw (drop-cons s p 0)
+
+  -- what it takes is a record that stands there
+  pub here-back : (s : List ℕ) (p : ℕ) (a : Got (Values r)) → hereAt r s p ≡ taken a → (drop p s ≡ recordOf r (a .value) ++ a .rest) × Accepted r (a .value) × (a .after ≡ p + length (recordOf r (a .value)))
+  unfolding hereAt hereIn
+  here-back s p a e = go (drop p s) e
+    where
+      by-here : (x : Res (Got (Values r))) → hereOf x ≡ taken a → x ≡ good a
+      by-here (good b) f = let g : b ≡ a = cc in rw g
+      by-here (fault n q) f = let z : _≡_ {A = ℕ} 0 1 = cc in let y : ⊥ = omega arith in absurd y
+
+      go : (w : List ℕ) → hereIn r w p ≡ taken a → (w ≡ recordOf r (a .value) ++ a .rest) × Accepted r (a .value) × (a .after ≡ p + length (recordOf r (a .value)))
+      go [] f = let z : _≡_ {A = ℕ} 0 1 = cc in let y : ⊥ = omega arith in absurd y
+      go (x ∷ w) f = let u = recordAt-back largest-record r (x ∷ w) p a (by-here _ f) in (u .0, (u .1, u .3), u .2)
+
   -- ---- a step of the run reader, by what it sees
 
-  pub step-takes : (s : List ℕ) (x : Reader) (a : Got (Values r)) (n : ℕ) → hereAt r s (x .position) ≡ taken a → a .2 ≡ x .position + n
+  pub step-takes : (s : List ℕ) (x : Reader) (a : Got (Values r)) (n : ℕ) → hereAt r s (x .position) ≡ taken a → a .after ≡ x .position + n
       → (stepAnswer r s x ≡ told-two done (x .position) n) × (stepAfter r s x ≡ record { position = x .position + n; handed = oneMore (x .handed) })
   unfolding stepAnswer stepAfter
   step-takes s x a n e h = let f : x .position + n - x .position ≡ n = omega arith in (rw (e, h, f) refl, rw (e, h) refl)
@@ -184,3 +203,71 @@ module _ (r : Members) where
   pub step-faults : (s : List ℕ) (x : Reader) (n p : ℕ) → hereAt r s (x .position) ≡ faulty n p → (stepAnswer r s x ≡ refusal-after n p (x .handed)) × (stepAfter r s x ≡ x)
   unfolding stepAnswer stepAfter
   step-faults s x n p e = (rw e refl, rw e refl)
+
+  -- ---- a whole walk
+
+  -- what a run reader answers in so many steps, and what it holds after them
+  unfoldable pub steps : ℕ → List ℕ → Reader → List Told
+  steps zero s x = []
+  steps (suc k) s x = stepAnswer r s x ∷ steps k s (stepAfter r s x)
+
+  unfoldable pub afterSteps : ℕ → List ℕ → Reader → Reader
+  afterSteps zero s x = x
+  afterSteps (suc k) s x = afterSteps k s (stepAfter r s x)
+
+  -- each record of a list, where it stands from `b` on
+  unfoldable pub handedOut : List (Values r) → ℕ → List Told
+  handedOut [] b = []
+  handedOut (v ∷ vs) b = told-two done b (length (recordOf r v)) ∷ handedOut vs (b + length (recordOf r v))
+
+  abbrev at : ℕ → ℕ → Reader
+  at p n = record { position = p; handed = n }
+
+  -- over records, one after another
+  walk-records : T (clears r) → (s : List ℕ) (vs : List (Values r)) → All (Accepted r) vs → (k m b n b′ n′ : ℕ) (before rest : List ℕ)
+      → m ≡ length vs + k → s ≡ before ++ (runOf r vs ++ rest) → b ≡ length before → n + length vs ≤ top → b′ ≡ b + length (runOf r vs) → n′ ≡ n + length vs
+      → (steps m s (at b n) ≡ handedOut vs b ++ steps k s (at b′ n′)) × (afterSteps m s (at b n) ≡ afterSteps k s (at b′ n′))
+  unfolding steps afterSteps handedOut each oneMore
+  walk-records c s [] ok k m b n b′ n′ before rest em es eb et ep en =
+      let f : m ≡ k = omega arith in let g : b′ ≡ b = omega arith in let h : n′ ≡ n = omega arith in (rw (f, g, h) refl, rw (f, g, h) refl)
+  walk-records c s (v ∷ vs) ok k zero b n b′ n′ before rest em es eb et ep en = let z : ⊥ = omega arith in absurd z
+  walk-records c s (v ∷ vs) ok k (suc m) b n b′ n′ before rest em es eb et ep en =
+      let w : List ℕ = runOf r vs ++ rest in
+      let q : s ≡ before ++ (recordOf r v ++ w) = es ∙ ap (λ (y : List ℕ). before ++ y) (append-assoc (recordOf r v) (runOf r vs) rest) in
+      let here : hereAt r s b ≡ taken (got v w (b + length (recordOf r v))) = rw eb (here-there c s before v w (ok .0) q) in
+      let t = step-takes s (at b n) (got v w (b + length (recordOf r v))) (length (recordOf r v)) here refl in
+      let o : oneMore n ≡ n + 1 = one-more n (omega arith) in
+      let l = length-append (recordOf r v) (runOf r vs) in
+      let i = walk-records c s vs (ok .1) k m (b + length (recordOf r v)) (n + 1) b′ n′ (before ++ recordOf r v) rest (omega arith) (q ∙ sym (append-assoc before (recordOf r v) w)) (omega (arith, length-append before (recordOf r v))) (omega arith) (omega arith) (omega arith) in
+      (rw (t .0, t .1, o) (ap (λ (y : List Told). told-two done b (length (recordOf r v)) ∷ y) (i .0)), rw (t .1, o) (i .1))
+    where
+      one-more : (n : ℕ) → n < top → oneMore n ≡ n + 1
+      one-more n h = pick-yes (ltb n top) (n + 1) n (lt→ltb n top h)
+
+  -- where a step changes nothing, all that follow answer the same
+  walk-stays : (s : List ℕ) (x : Reader) → stepAfter r s x ≡ x → (k : ℕ) → (steps k s x ≡ replicate k (stepAnswer r s x)) × (afterSteps k s x ≡ x)
+  unfolding steps afterSteps
+  walk-stays s x e zero = (refl, refl)
+  walk-stays s x e (suc k) = let i = walk-stays s x e k in (ap (λ (y : List Told). stepAnswer r s x ∷ y) (rw e (i .0)), rw e (i .1))
+
+  -- the records of a list in order, each with its place, and then one answer for ever
+  abbrev pub Walked : List ℕ → List (Values r) → Told → Type 0
+  Walked s vs t =
+      (k : ℕ) → (steps (length vs + k) s made ≡ handedOut vs 0 ++ replicate k t) × (afterSteps (length vs + k) s made ≡ record { position = length (runOf r vs); handed = length vs })
+
+  walk : T (clears r) → (s : List ℕ) (vs : List (Values r)) (rest : List ℕ) → All (Accepted r) vs → s ≡ runOf r vs ++ rest → length s ≤ top → (t : Told)
+      → (stepAnswer r s (at (length (runOf r vs)) (length vs)) ≡ t) × (stepAfter r s (at (length (runOf r vs)) (length vs)) ≡ at (length (runOf r vs)) (length vs)) → Walked s vs t
+  walk c s vs rest ok e h t (a, b) k =
+      let l : length s ≡ length (runOf r vs) + length rest = ap length e ∙ length-append (runOf r vs) rest in
+      let w = walk-records c s vs ok k (length vs + k) 0 0 (length (runOf r vs)) (length vs) [] rest refl e refl (omega (arith, run-some vs)) (omega arith) (omega arith) in
+      let y = walk-stays s (at (length (runOf r vs)) (length vs)) b k in
+      (w .0 ∙ ap (λ (z : List Told). handedOut vs 0 ++ z) (rw a at (y .0)), w .1 ∙ y .1)
+
+  pub run-walked : T (clears r) → (vs : List (Values r)) → All (Accepted r) vs → length (runOf r vs) ≤ top → Walked (runOf r vs) vs (told-none run-end)
+  run-walked c vs ok h =
+      walk c (runOf r vs) vs [] ok (sym (append-nil (runOf r vs))) h (told-none run-end) (step-ends (runOf r vs) (at (length (runOf r vs)) (length vs)) (here-end (runOf r vs) (length (runOf r vs)) (omega arith)))
+
+  pub stop-walked : T (clears r) → (w : List ℕ) (vs : List (Values r)) (n p : ℕ) → readRun r w ≡ stopped vs n p → length w ≤ top → Walked w vs (refusal-after n p (length vs))
+  stop-walked c w vs n p e h =
+      let s = run-stops w vs n p e in
+      walk c w vs (s .0) (s .2) (s .1) h (refusal-after n p (length vs)) (step-faults w (at (length (runOf r vs)) (length vs)) n p (s .3))

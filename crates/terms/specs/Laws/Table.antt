@@ -19,23 +19,23 @@ answers [] = []
 answers (x ∷ xs) = x .1 ∷ answers xs
 
 -- the test that is computed over a table
-unfoldable pub sameWhole : ℤ → ℤ → Bool
-sameWhole (pos a) (pos b) = eqb a b
-sameWhole (pos a) (negsuc b) = false
-sameWhole (negsuc a) (pos b) = false
-sameWhole (negsuc a) (negsuc b) = eqb a b
+unfoldable pub sameNumber : ℤ → ℤ → Bool
+sameNumber (pos a) (pos b) = eqb a b
+sameNumber (pos a) (negsuc b) = false
+sameNumber (negsuc a) (pos b) = false
+sameNumber (negsuc a) (negsuc b) = eqb a b
 
-unfoldable pub sameWholes : List ℤ → List ℤ → Bool
-sameWholes [] [] = true
-sameWholes [] (y ∷ ys) = false
-sameWholes (x ∷ xs) [] = false
-sameWholes (x ∷ xs) (y ∷ ys) = sameWhole x y && sameWholes xs ys
+unfoldable pub sameNumbers : List ℤ → List ℤ → Bool
+sameNumbers [] [] = true
+sameNumbers [] (y ∷ ys) = false
+sameNumbers (x ∷ xs) [] = false
+sameNumbers (x ∷ xs) (y ∷ ys) = sameNumber x y && sameNumbers xs ys
 
 unfoldable pub sameTold : Told → Told → Bool
-sameTold (gives m xs) (gives n ys) = eqb m n && sameWholes xs ys
+sameTold (gives m xs) (gives n ys) = eqb m n && sameNumbers xs ys
 sameTold (gives m xs) (refuses n ys) = false
 sameTold (refuses m xs) (gives n ys) = false
-sameTold (refuses m xs) (refuses n ys) = eqb m n && sameWholes xs ys
+sameTold (refuses m xs) (refuses n ys) = eqb m n && sameNumbers xs ys
 
 unfoldable pub agree : List Row → Bool
 agree [] = true
@@ -43,26 +43,26 @@ agree (x ∷ xs) = sameTold (x .0) (x .1) && agree xs
 
 -- ---- a table whose test is passed
 
-sameWhole-eq : (x y : ℤ) → T (sameWhole x y) → x ≡ y
-unfolding sameWhole
-sameWhole-eq (pos a) (pos b) h = ap pos (eqb→eq a b h)
-sameWhole-eq (pos a) (negsuc b) h = absurd h
-sameWhole-eq (negsuc a) (pos b) h = absurd h
-sameWhole-eq (negsuc a) (negsuc b) h = ap negsuc (eqb→eq a b h)
+sameNumber-eq : (x y : ℤ) → T (sameNumber x y) → x ≡ y
+unfolding sameNumber
+sameNumber-eq (pos a) (pos b) h = ap pos (eqb→eq a b h)
+sameNumber-eq (pos a) (negsuc b) h = absurd h
+sameNumber-eq (negsuc a) (pos b) h = absurd h
+sameNumber-eq (negsuc a) (negsuc b) h = ap negsuc (eqb→eq a b h)
 
-sameWholes-eq : (xs ys : List ℤ) → T (sameWholes xs ys) → xs ≡ ys
-unfolding sameWholes
-sameWholes-eq [] [] h = refl
-sameWholes-eq [] (y ∷ ys) h = absurd h
-sameWholes-eq (x ∷ xs) [] h = absurd h
-sameWholes-eq (x ∷ xs) (y ∷ ys) h = ap₂ _∷_ (sameWhole-eq x y (and-l (sameWhole x y) (sameWholes xs ys) h)) (sameWholes-eq xs ys (and-r (sameWhole x y) (sameWholes xs ys) h))
+sameNumbers-eq : (xs ys : List ℤ) → T (sameNumbers xs ys) → xs ≡ ys
+unfolding sameNumbers
+sameNumbers-eq [] [] h = refl
+sameNumbers-eq [] (y ∷ ys) h = absurd h
+sameNumbers-eq (x ∷ xs) [] h = absurd h
+sameNumbers-eq (x ∷ xs) (y ∷ ys) h = ap₂ _∷_ (sameNumber-eq x y (and-l (sameNumber x y) (sameNumbers xs ys) h)) (sameNumbers-eq xs ys (and-r (sameNumber x y) (sameNumbers xs ys) h))
 
 pub sameTold-eq : (x y : Told) → T (sameTold x y) → x ≡ y
 unfolding sameTold
-sameTold-eq (gives m xs) (gives n ys) h = ap₂ gives (eqb→eq m n (and-l (eqb m n) (sameWholes xs ys) h)) (sameWholes-eq xs ys (and-r (eqb m n) (sameWholes xs ys) h))
+sameTold-eq (gives m xs) (gives n ys) h = ap₂ gives (eqb→eq m n (and-l (eqb m n) (sameNumbers xs ys) h)) (sameNumbers-eq xs ys (and-r (eqb m n) (sameNumbers xs ys) h))
 sameTold-eq (gives m xs) (refuses n ys) h = absurd h
 sameTold-eq (refuses m xs) (gives n ys) h = absurd h
-sameTold-eq (refuses m xs) (refuses n ys) h = ap₂ refuses (eqb→eq m n (and-l (eqb m n) (sameWholes xs ys) h)) (sameWholes-eq xs ys (and-r (eqb m n) (sameWholes xs ys) h))
+sameTold-eq (refuses m xs) (refuses n ys) h = ap₂ refuses (eqb→eq m n (and-l (eqb m n) (sameNumbers xs ys) h)) (sameNumbers-eq xs ys (and-r (eqb m n) (sameNumbers xs ys) h))
 
 -- every answer is the one in its row
 pub agreed : (rows : List Row) → T (agree rows) → asks rows ≡ answers rows

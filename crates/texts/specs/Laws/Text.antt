@@ -14,7 +14,7 @@ use Rattle.terms.specs.Laws.Answer.{test, and-l, and-r, is-false}
 use Rattle.contents.specs.Text.{Range, within, Character, character, starts, follows, textFrom, isText, partsFrom, isIdentifier}
 use Rattle.texts.specs.declared.Alphabet.{Alphabet}
 use Rattle.texts.specs.declared.Rest.{Rest}
-use Rattle.texts.specs.declared.Rest.the-variants.{Whole, Due, Never}
+use Rattle.texts.specs.declared.Rest.the-variants.{Complete, Due, Never}
 use Rattle.texts.specs.Text.{charactersOf, textAfter, Steps}
 
 -- ---- a byte of a range, and one of none
@@ -58,7 +58,7 @@ module _ (xs : List Character) where
   unfolding textFrom
   begins n b o l h c = goes xs xs n b c o l h
 
-  pub begins-none : (b : ℕ) → Outside xs b → Steps xs Whole b Never
+  pub begins-none : (b : ℕ) → Outside xs b → Steps xs Complete b Never
   unfolding textFrom
   begins-none b h c = rw (goes-nowhere xs b h)
 
@@ -73,7 +73,7 @@ module _ (b low high tails : ℕ) where
   unfolding textFrom within
   due-high l h xs c = rw (le-leb low b l, lt-leb b high h)
 
-  pub due-last : low ≤ b → b ≤ high → tails ≡ 0 → (xs : List Character) → Steps xs (Due low high tails) b Whole
+  pub due-last : low ≤ b → b ≤ high → tails ≡ 0 → (xs : List Character) → Steps xs (Due low high tails) b Complete
   unfolding textFrom
   due-last l h e xs c = rw (e, within-yes b (low, high) l h)
 
@@ -84,7 +84,7 @@ due-on b low high (suc n) l h e xs c = let f : suc n - 1 ≡ n = omega arith in 
 
 -- ---- what the code knows by its names
 
-pub of-alphabet : (x y : Alphabet) (b : ℕ) (r : Rest) → x ≡ y → Steps (charactersOf y) Whole b r → Steps (charactersOf x) Whole b r
+pub of-alphabet : (x y : Alphabet) (b : ℕ) (r : Rest) → x ≡ y → Steps (charactersOf y) Complete b r → Steps (charactersOf x) Complete b r
 of-alphabet x y b r e h = rw e h
 
 pub of-rest : (xs : List Character) (x y : Rest) (b : ℕ) (r : Rest) → x ≡ y → Steps xs y b r → Steps xs x b r

@@ -13,17 +13,17 @@ use borrow.Author.Tests.{le-leb, lt-leb, not-true, not-false}
 use Rattle.terms.specs.Answer.{Res, good, fault, Got, pick, need}
 use Rattle.terms.specs.Laws.Answer.{test, and-l, and-r, both, is-true, is-false, pick-yes, pick-no}
 use Rattle.contents.specs.Time.{possible, isDigit, partFrom}
-use Rattle.times.specs.declared.Reading.{Reading}
-use Rattle.times.specs.declared.Reading.the-variants.{Number, Nothing}
+use Rattle.times.specs.declared.Parsed.{Parsed}
+use Rattle.times.specs.declared.Parsed.the-variants.{Number, Nothing}
 
 -- ---- what code answers of a reading
 
-unfoldable pub heard : Res (Got ℕ) → Reading
-heard (good x) = Number (x .0)
+unfoldable pub heard : Res (Got ℕ) → Parsed
+heard (good x) = Number (x .value)
 heard (fault n p) = Nothing
 
 -- go on with the number
-unfoldable pub after : Reading → (ℕ → Reading) → Reading
+unfoldable pub after : Parsed → (ℕ → Parsed) → Parsed
 after (Number n) f = f n
 after Nothing f = Nothing
 
@@ -32,25 +32,25 @@ pub no-number : {X : Type 0} {n : ℕ} → Nothing ≡ Number n → X
 no-number e = let z : _≡_ {A = ℕ} 0 1 = cc in let f : ⊥ = omega arith in absurd f
 
 -- a number is at most so much
-abbrev pub AtMost : ℕ → Reading → Type 0
+abbrev pub AtMost : ℕ → Parsed → Type 0
 AtMost m (Number n) = n ≤ m
 AtMost m Nothing = Unit {0}
 
-pub at-most : {m n : ℕ} {r : Reading} → AtMost m r → r ≡ Number n → n ≤ m
+pub at-most : {m n : ℕ} {r : Parsed} → AtMost m r → r ≡ Number n → n ≤ m
 at-most h e = rw e at h
 
-pub at-most-of : {m n k : ℕ} {r : Reading} → AtMost m r → r ≡ Number n → m ≤ k → n ≤ k
+pub at-most-of : {m n k : ℕ} {r : Parsed} → AtMost m r → r ≡ Number n → m ≤ k → n ≤ k
 at-most-of {m} {n} {k} {r} h e l = le-trans (at-most h e) l
 
 -- ---- all digits first
 
 -- the digit at the front of a window
-unfoldable pub firstDigit : List ℕ → Reading
+unfoldable pub firstDigit : List ℕ → Parsed
 firstDigit [] = Nothing
 firstDigit (d ∷ w) = pick (isDigit d) (Number (d - 0x30)) Nothing
 
 -- `k` digits after the number `n`
-unfoldable pub plain : ℕ → ℕ → List ℕ → Reading
+unfoldable pub plain : ℕ → ℕ → List ℕ → Parsed
 plain zero n w = Number n
 plain (suc k) n w = after (firstDigit w) λ d. plain k (n * 10 + d) (drop 1 w)
 
@@ -58,11 +58,11 @@ plain (suc k) n w = after (firstDigit w) λ d. plain k (n * 10 + d) (drop 1 w)
 unfoldable pub inside : ℕ → ℕ → ℕ → Bool
 inside low high n = leb low n && leb n high
 
-unfoldable pub within : ℕ → ℕ → ℕ → Reading
+unfoldable pub within : ℕ → ℕ → ℕ → Parsed
 within low high n = pick (inside low high n) (Number n) Nothing
 
 -- the part at `i`, as the rules read it
-unfoldable pub partAt : ℕ → ℕ → ℕ → ℕ → List ℕ → Reading
+unfoldable pub partAt : ℕ → ℕ → ℕ → ℕ → List ℕ → Parsed
 partAt k low high i c = heard (partFrom k low high 0 (drop i c) i)
 
 digit-small : (d : ℕ) → T (isDigit d) → d - 0x30 ≤ 9
@@ -152,14 +152,14 @@ module _ {k i : ℕ} {w : List ℕ} where
   pub starts : Going k i w 0 0
   starts = record { few = omega arith; small = omega arith; rest = rw (add-zero i, sub-zero k) }
 
-  pub turns : {n j x : ℕ} {r : Reading} → Going k i w n j → j < k → r ≡ firstDigit (drop (i + j) w) → r ≡ Number x → x ≤ 9 → Going k i w (n * 10 + x) (j + 1)
+  pub turns : {n j x : ℕ} {r : Parsed} → Going k i w n j → j < k → r ≡ firstDigit (drop (i + j) w) → r ≡ Number x → x ≤ 9 → Going k i w (n * 10 + x) (j + 1)
   turns {n} {j} {x} g h d e l = record {
     few = omega arith;
     small = rw (add-one j, pow-suc 10 j) (omega (arith, g .small));
     rest = g .rest ∙ one-more k i w n j x h (sym d ∙ e);
   }
 
-  pub stops : {n j : ℕ} {r : Reading} → Going k i w n j → j < k → r ≡ firstDigit (drop (i + j) w) → r ≡ Nothing → plain k 0 (drop i w) ≡ Nothing
+  pub stops : {n j : ℕ} {r : Parsed} → Going k i w n j → j < k → r ≡ firstDigit (drop (i + j) w) → r ≡ Nothing → plain k 0 (drop i w) ≡ Nothing
   unfolding plain after
   stops {n} {j} g h d e = g .rest ∙ (let q : k - j ≡ suc (k - (j + 1)) = omega arith in rw (q, ← d, e))
 

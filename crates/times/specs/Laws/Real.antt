@@ -14,8 +14,8 @@ use Rattle.terms.specs.Digits.{digits}
 use Rattle.terms.specs.Laws.Digits.{pow-pos, length-digits}
 use Rattle.contents.specs.Content.{passes}
 use Rattle.contents.specs.Time.{year-digits, monthLength, isDigit, timeFrom, timeRule, written, isReal}
-use Rattle.times.specs.declared.Reading.{Reading}
-use Rattle.times.specs.declared.Reading.the-variants.{Number, Nothing}
+use Rattle.times.specs.declared.Parsed.{Parsed}
+use Rattle.times.specs.declared.Parsed.the-variants.{Number, Nothing}
 use Rattle.times.specs.Laws.Parts.{after, firstDigit, plain, inside, within, partAt, part-plain, not-too-low}
 use Rattle.times.specs.Laws.Whole.{told, closing, dateIn, clockIn, timeIn, time-in, rule-none, rule-fine}
 
@@ -52,7 +52,7 @@ drop-chars (suc i) j n z = let q : suc i + j ≡ suc (i + j) = omega arith in rw
 -- ---- a part of a number that is written
 
 -- a number was read
-unfoldable pub there : Reading → Bool
+unfoldable pub there : Parsed → Bool
 there (Number n) = true
 there Nothing = false
 
@@ -68,7 +68,7 @@ module _ (n k low high i j : ℕ) (whole : i + (k + j) ≡ 14) (some-way : low <
       ∙ rw (after-written n i (k + j) whole, plain-chars k j 0 n (0x5A ∷ []))
       (ap (within low high) (let z : 0 * 10 ^ k + n / 10 ^ j % 10 ^ k ≡ n / 10 ^ j % 10 ^ k = omega arith in z))
 
-  there-part : (f : ℕ → Reading) → there (after (partAt k low high i (written n)) f) ≡ inside low high (n / 10 ^ j % 10 ^ k) && there (f (n / 10 ^ j % 10 ^ k))
+  there-part : (f : ℕ → Parsed) → there (after (partAt k low high i (written n)) f) ≡ inside low high (n / 10 ^ j % 10 ^ k) && there (f (n / 10 ^ j % 10 ^ k))
   unfolding after within there pick
   there-part f = rw part-written (go (inside low high (n / 10 ^ j % 10 ^ k)))
     where
@@ -132,7 +132,7 @@ whole-there : (c : List ℕ) → there (told (timeFrom year-digits c 0)) ≡ the
 unfolding timeIn after there
 whole-there c = rw (← time-in c) (go (dateIn c) (clockIn c))
   where
-    go : (d t : Reading) → there (after d λ x. after t λ y. Number (x * 1000000 + y)) ≡ there d && there t
+    go : (d t : Parsed) → there (after d λ x. after t λ y. Number (x * 1000000 + y)) ≡ there d && there t
     go (Number x) (Number y) = refl
     go (Number x) Nothing = refl
     go Nothing t = refl
@@ -141,7 +141,7 @@ rule-there : (c : List ℕ) → length c ≤ 15 → passes (timeRule c) ≡ ther
 unfolding passes there
 rule-there c l = go (told (timeFrom year-digits c 0)) refl
   where
-    go : (r : Reading) → told (timeFrom year-digits c 0) ≡ r → passes (timeRule c) ≡ there r
+    go : (r : Parsed) → told (timeFrom year-digits c 0) ≡ r → passes (timeRule c) ≡ there r
     go (Number n) e = rw (rule-fine c l e)
     go Nothing e = rw (rule-none c e)
 

@@ -4,24 +4,30 @@ use Prim.Native.Nat.{ℕ, suc, zero, _+_, _*_, _-_, _≤_, _<_}
 use native.Mathlib.Omega.{arith}
 use mathlib.Core.Bool.{Bool, true, false, not, _&&_}
 use mathlib.Core.List.{List, [], _∷_}
-use lib.ListN.{length, getD, drop, drop-of-length-le, length-drop}
+use lib.ListN.{length, getD, drop, drop-of-length-le}
 use lib.Seq.{slice, drop-cons, drop-drop}
 use lib.Dec.{T, ltb, eqb, ltb→lt, nltb→le}
 use borrow.Author.Tests.{not-true, not-false}
-use Rattle.terms.specs.Answer.{Res, good, fault, Got, pick, bind, need}
+use Rattle.terms.specs.Answer.{Res, good, fault, Got, got, pick, bind, need, same}
 use Rattle.terms.specs.Numbers.{bad-time}
 use Rattle.terms.specs.Laws.Answer.{clash, good-inj, test, by-need, is-true, is-false}
-use Rattle.contents.specs.Content.{fine, wrong, tag, placeOf}
+use Rattle.contents.specs.Content.{fine, wrong, tag, ask, placeOf}
 use Rattle.contents.specs.Scan.{checkedAt}
 use Rattle.contents.specs.declared.Checked.the-variants.{Fine, Wrong}
 use Rattle.contents.specs.Time.{year-digits, monthLength, possible, isDigit, partFrom, zulu, Moment, moment, timeFrom, timeCheck, timeRule, momentIn, momentOf}
-use Rattle.times.specs.declared.Reading.{Reading}
-use Rattle.times.specs.declared.Reading.the-variants.{Number, Nothing}
+use Rattle.times.specs.declared.Parsed.{Parsed}
+use Rattle.times.specs.declared.Parsed.the-variants.{Number, Nothing}
 use Rattle.times.specs.Laws.Parts.{heard, after, no-number, partAt}
 
 -- what code answers of a whole time: its number, or none
-unfoldable pub told : Res (Got Moment) → Reading
-told (good (moment n, w, b)) = Number n
+abbrev numberOf : Moment → ℕ
+numberOf (moment n) = n
+
+number-back : (m : Moment) → moment (numberOf m) ≡ m
+number-back (moment n) = refl
+
+unfoldable pub told : Res (Got Moment) → Parsed
+told (good x) = Number (numberOf (x .value))
 told (fault n p) = Nothing
 
 -- the closing Z at the front of a window
@@ -29,30 +35,30 @@ unfoldable pub closing : List ℕ → Bool
 closing [] = false
 closing (z ∷ w) = eqb z 0x5A
 
-unfoldable pub dateIn : List ℕ → Reading
+unfoldable pub dateIn : List ℕ → Parsed
 dateIn c =
     after (partAt 4 0 9999 0 c) λ y.
     after (partAt 2 1 12 4 c) λ m.
     after (partAt 2 1 (monthLength y m) 6 c) λ d.
     Number ((y * 100 + m) * 100 + d)
 
-unfoldable pub clockIn : List ℕ → Reading
+unfoldable pub clockIn : List ℕ → Parsed
 clockIn c =
     after (partAt 2 0 23 8 c) λ h.
     after (partAt 2 0 59 10 c) λ i.
     after (partAt 2 0 59 12 c) λ s.
     pick (closing (drop 14 c)) (Number ((h * 100 + i) * 100 + s)) Nothing
 
-unfoldable pub timeIn : List ℕ → Reading
+unfoldable pub timeIn : List ℕ → Parsed
 timeIn c =
     after (dateIn c) λ d.
     after (clockIn c) λ t.
     Number (d * 1000000 + t)
 
 -- where a part ends
-rest : (k low high n b : ℕ) (w : List ℕ) (x : Got ℕ) → partFrom k low high n w b ≡ good x → (x .1 ≡ drop k w) × (x .2 ≡ b + k)
+rest : (k low high n b : ℕ) (w : List ℕ) (x : Got ℕ) → partFrom k low high n w b ≡ good x → (x .rest ≡ drop k w) × (x .after ≡ b + k)
 unfolding partFrom
-rest zero low high n b w x e = let q = good-inj e in (sym (ap (λ (y : Got ℕ). y .1) q), sym (ap (λ (y : Got ℕ). y .2) q) ∙ (let z : b ≡ b + 0 = omega arith in z))
+rest zero low high n b w x e = let q = good-inj e in (sym (ap (λ (y : Got ℕ). y .rest) q), sym (ap (λ (y : Got ℕ). y .after) q) ∙ (let z : b ≡ b + 0 = omega arith in z))
 rest (suc k) low high n b [] x e = clash e
 rest (suc k) low high n b (d ∷ w) x e =
     by-need (isDigit d && possible low high k (n * 10 + (d - 0x30))) bad-time b _ x e λ t f.
@@ -62,28 +68,29 @@ rest (suc k) low high n b (d ∷ w) x e =
 -- one part after the other: what holds of a refusal, and after every number that this part may have, holds
 by-part : (k low high i : ℕ) (c : List ℕ) (K : Got ℕ → Res (Got Moment)) (P : Res (Got Moment) → Type 0)
     → ((n p : ℕ) → partAt k low high i c ≡ Nothing → P (fault n p))
-    → ((n : ℕ) → partAt k low high i c ≡ Number n → P (K (n, drop (i + k) c, i + k)))
+    → ((n : ℕ) → partAt k low high i c ≡ Number n → P (K (got n (drop (i + k) c) (i + k))))
     → P (bind (partFrom k low high 0 (drop i c) i) K)
 unfolding partAt bind heard
 by-part k low high i c K P f g = go (partFrom k low high 0 (drop i c) i) refl
   where
     go : (r : Res (Got ℕ)) → partFrom k low high 0 (drop i c) i ≡ r → P (bind r K)
     go (fault n p) e = f n p (ap heard e)
-    go (good (n, w, b)) e =
-        let (p, q) = rest k low high 0 i (drop i c) (n, w, b) e in
-        rw (p, q, drop-drop k i c) (g n (ap heard e))
+    go (good x) e =
+        let (p, q) = rest k low high 0 i (drop i c) x e in
+        let h = g (x .value) (ap heard e) in
+        rw (← drop-drop k i c, ← p, ← q) at h
 
-step : (k low high i : ℕ) (c : List ℕ) (K : Got ℕ → Res (Got Moment)) (f g : ℕ → Reading)
-    → ((n : ℕ) → told (K (n, drop (i + k) c, i + k)) ≡ after (f n) g)
+step : (k low high i : ℕ) (c : List ℕ) (K : Got ℕ → Res (Got Moment)) (f g : ℕ → Parsed)
+    → ((n : ℕ) → told (K (got n (drop (i + k) c) (i + k))) ≡ after (f n) g)
     → told (bind (partFrom k low high 0 (drop i c) i) K) ≡ after (after (partAt k low high i c) f) g
 unfolding after told
 step k low high i c K f g h = by-part k low high i c K (λ r. told r ≡ after (after (partAt k low high i c) f) g) (λ n p e. rw e) (λ n e. rw e (h n))
 
-last : (T : ℕ) (c : List ℕ) (g : ℕ → Reading) (v : ℕ) → Number v ≡ g T → told (bind (zulu (drop 14 c) 14) λ z. good (moment v, z .1, z .2)) ≡ after (pick (closing (drop 14 c)) (Number T) Nothing) g
+last : (T : ℕ) (c : List ℕ) (g : ℕ → Parsed) (v : ℕ) → Number v ≡ g T → told (bind (zulu (drop 14 c) 14) λ z. good (got (moment v) (z .rest) (z .after))) ≡ after (pick (closing (drop 14 c)) (Number T) Nothing) g
 unfolding bind after told zulu closing pick need
 last T c g v h = go (drop 14 c)
   where
-    go : (w : List ℕ) → told (bind (zulu w 14) λ z. good (moment v, z .1, z .2)) ≡ after (pick (closing w) (Number T) Nothing) g
+    go : (w : List ℕ) → told (bind (zulu w 14) λ z. good (got (moment v) (z .rest) (z .after))) ≡ after (pick (closing w) (Number T) Nothing) g
     go [] = refl
     go (z ∷ w) = test (eqb z 0x5A) (λ t. rw (is-true (eqb z 0x5A) t) h) (λ t. rw (is-false (eqb z 0x5A) t))
 
@@ -103,16 +110,16 @@ time-in c =
 
 -- what stands after a time that was read
 abbrev Ends : List ℕ → Res (Got Moment) → Type 0
-Ends c r = (x : Got Moment) → r ≡ good x → x .1 ≡ drop 15 c
+Ends c r = (x : Got Moment) → r ≡ good x → x .rest ≡ drop 15 c
 
-last-ends : (c : List ℕ) (v : Moment) → Ends c (bind (zulu (drop 14 c) 14) λ z. good (v, z .1, z .2))
+last-ends : (c : List ℕ) (v : Moment) → Ends c (bind (zulu (drop 14 c) 14) λ z. good (got v (z .rest) (z .after)))
 unfolding bind zulu need
 last-ends c v x e =
     test (ltb 14 (length c))
     (λ t.
     let h : 14 < length c = ltb→lt 14 (length c) t in
     test (eqb (getD c 14 0) 0x5A)
-    (λ k. sym (ap (λ (y : Got Moment). y .1) (good-inj (rw (drop-cons c 14 0 h, is-true (eqb (getD c 14 0) 0x5A) k) at e))))
+    (λ k. sym (ap (λ (y : Got Moment). y .rest) (good-inj (rw (drop-cons c 14 0 h, is-true (eqb (getD c 14 0) 0x5A) k) at e))))
     (λ k. clash (rw (drop-cons c 14 0 h, is-false (eqb (getD c 14 0) 0x5A) k) at e)))
     (λ t. clash (rw (drop-of-length-le c {i = 14} (nltb→le 14 (length c) t)) at e))
 
@@ -133,13 +140,12 @@ time-ends c =
 -- the rule: no more than fifteen bytes, and a number
 module _ (c : List ℕ) where
   pub rule-long : 15 < length c → timeRule c ≡ wrong bad-time tag
-  unfolding timeRule timeCheck
+  unfolding timeRule timeCheck ask same
   rule-long h = go (timeFrom year-digits c 0) (time-ends c)
     where
       go : (r : Res (Got Moment)) → Ends c r → timeCheck r ≡ wrong bad-time tag
       go (fault n p) e = refl
-      go (good (m, x ∷ w, b)) e = refl
-      go (good (m, [], b)) e = let z : ⊥ = omega (arith, ap length (e (m, [], b) refl) ∙ length-drop 15 c) in absurd z
+      go (good x) e = rw (e x refl, drop-cons c 15 0 h)
 
   pub rule-none : told (timeFrom year-digits c 0) ≡ Nothing → timeRule c ≡ wrong bad-time tag
   unfolding timeRule timeCheck told
@@ -147,16 +153,15 @@ module _ (c : List ℕ) where
     where
       go : (r : Res (Got Moment)) → told r ≡ Nothing → timeCheck r ≡ wrong bad-time tag
       go (fault n p) e = refl
-      go (good (moment n, w, b)) e = no-number (sym e)
+      go (good x) e = no-number (sym e)
 
   pub rule-fine : {n : ℕ} → length c ≤ 15 → told (timeFrom year-digits c 0) ≡ Number n → timeRule c ≡ fine
-  unfolding timeRule timeCheck told
+  unfolding timeRule timeCheck ask same told
   rule-fine {n} l = go (timeFrom year-digits c 0) (time-ends c)
     where
       go : (r : Res (Got Moment)) → Ends c r → told r ≡ Number n → timeCheck r ≡ fine
       go (fault k p) h e = no-number e
-      go (good (m, [], b)) h e = refl
-      go (good (m, x ∷ w, b)) h e = let z : ⊥ = omega (arith, ap length (h (m, x ∷ w, b) refl) ∙ length-drop 15 c) in absurd z
+      go (good x) h e = rw (h x refl, drop-of-length-le c {i = 15} l)
 
 -- ---- step by step, as code goes
 
@@ -169,8 +174,8 @@ module _ (w : List ℕ) where
   unfolding closing
   closing-there h = rw (drop-cons w 14 0 h)
 
-module _ (h : Reading) (f : ℕ → Reading) {r : Reading} (e : r ≡ h) where
-  pub after-number : (x : Reading) {n : ℕ} → r ≡ Number n → x ≡ f n → x ≡ after h f
+module _ (h : Parsed) (f : ℕ → Parsed) {r : Parsed} (e : r ≡ h) where
+  pub after-number : (x : Parsed) {n : ℕ} → r ≡ Number n → x ≡ f n → x ≡ after h f
   unfolding after
   after-number x q g = rw (← e, q) g
 
@@ -178,8 +183,8 @@ module _ (h : Reading) (f : ℕ → Reading) {r : Reading} (e : r ≡ h) where
   unfolding after
   after-nothing q = rw (← e, q)
 
-module _ (x y : Reading) (t : Bool) {r : Bool} (e : r ≡ t) where
-  pub closed : (z : Reading) → not r ≡ false → z ≡ x → z ≡ pick t x y
+module _ (x y : Parsed) (t : Bool) {r : Bool} (e : r ≡ t) where
+  pub closed : (z : Parsed) → not r ≡ false → z ≡ x → z ≡ pick t x y
   unfolding pick
   closed z h q = rw (sym e ∙ not-false r h) q
 
@@ -188,7 +193,7 @@ module _ (x y : Reading) (t : Bool) {r : Bool} (e : r ≡ t) where
   left-open h = rw (sym e ∙ not-true r h)
 
 -- the month's length by another name
-pub by-length : {r : Reading} (k low h high i : ℕ) (c : List ℕ) → r ≡ partAt k low h i c → h ≡ high → r ≡ partAt k low high i c
+pub by-length : {r : Parsed} (k low h high i : ℕ) (c : List ℕ) → r ≡ partAt k low h i c → h ≡ high → r ≡ partAt k low high i c
 by-length k low h high i c e q = e ∙ ap (λ (m : ℕ). partAt k low m i c) q
 
 pub number-is : {m n : ℕ} → m ≡ n → Number m ≡ Number n
@@ -196,7 +201,7 @@ number-is e = ap Number e
 
 pub ruleset steps = (after-number, after-nothing, closed, left-open, by-length, number-is)
 
-pub as-read : (x : Reading) (c : List ℕ) → x ≡ timeIn c → x ≡ told (timeFrom year-digits c 0)
+pub as-read : (x : Parsed) (c : List ℕ) → x ≡ timeIn c → x ≡ told (timeFrom year-digits c 0)
 as-read x c e = e ∙ time-in c
 
 -- ---- the content of a record
@@ -206,7 +211,7 @@ module _ (s w : List ℕ) (a z : ℕ) (cut : w ≡ slice a z s) where
   unfolding checkedAt placeOf
   too-long p h = rw (← cut, rule-long w h)
 
-  module _ {r : Reading} (e : r ≡ told (timeFrom year-digits w 0)) where
+  module _ {r : Parsed} (e : r ≡ told (timeFrom year-digits w 0)) where
     pub no-time : (p : ℕ) → r ≡ Nothing → Wrong 10 p ≡ checkedAt timeRule s p a z
     unfolding checkedAt placeOf
     no-time p q = rw (← cut, rule-none w (sym e ∙ q))
@@ -221,7 +226,7 @@ module _ (s w : List ℕ) (a z : ℕ) (cut : w ≡ slice a z s) where
       where
         go : (x : Res (Got Moment)) → told x ≡ Nothing → moment 0 ≡ momentIn x
         go (fault k p) f = refl
-        go (good (moment k, v, b)) f = no-number (sym f)
+        go (good x) f = no-number (sym f)
 
     pub that-moment : {n : ℕ} → r ≡ Number n → moment n ≡ momentOf (slice a z s)
     unfolding momentOf momentIn told
@@ -229,4 +234,4 @@ module _ (s w : List ℕ) (a z : ℕ) (cut : w ≡ slice a z s) where
       where
         go : (x : Res (Got Moment)) → told x ≡ Number n → moment n ≡ momentIn x
         go (fault k p) f = no-number f
-        go (good (moment k, v, b)) f = let y : k ≡ n = cc in ap moment (sym y)
+        go (good x) f = let y : numberOf (x .value) ≡ n = cc in rw (← y) (number-back (x .value))

@@ -1,45 +1,49 @@
 -- The answer is the first failing row of any table, and the notice goes with it as document 01 says. Assumes nothing.
-use mathlib.Core.Path.{_≡_, refl, sym, ap, subst}
-use mathlib.Core.Logic.{inl, inr}
+use mathlib.Core.Path.{_≡_, refl, sym, subst}
+use mathlib.Core.Logic.{_⊎_, inl, inr}
 use Prim.Native.Nat.{ℕ}
-use mathlib.Core.Bool.{Bool, true, false, not}
+use mathlib.Core.Bool.{Bool, true, false, not, _&&_, _||_}
+use mathlib.Core.Option.{Option, none, some}
 use mathlib.Core.List.{List, [], _∷_}
-use lib.Dec.{T}
-use Rattle.terms.specs.Numbers.{unreal-time}
+use lib.Dec.{T, leb, eqb}
+use Rattle.terms.specs.Numbers.{valid, unreal-time, outside-period, signer-out-at-stamp}
 use Rattle.terms.specs.Answer.{good, fault, every}
-use Rattle.terms.specs.Laws.Answer.{test, and-l, and-r, both, pick-yes, pick-no}
-use Rattle.layouts.specs.Layout.{Members, Values}
+use Rattle.terms.specs.Laws.Answer.{and-l, and-r, pick-yes, pick-no}
+use Rattle.layouts.specs.Layout.{Values, All}
+use Rattle.layouts.specs.Fields.{first}
+use Rattle.layouts.specs.Laws.Fields.{None, First, Sought, first-sought, first-holds}
 use Rattle.verdicts.specs.Findings.{allReal}
-use Rattle.verdicts.specs.Verdict.{Step, firstFailing, First, takesNotice, Facts, factsOf, signatureSteps, signatureValid, sealSteps, sealValid, judged, weigh}
+use Rattle.verdicts.specs.Verdict.{Step, orElse, firstFailing, Facts, factsOf, Rulebook, signatureRules, sealRules, judged, weigh}
 use Rattle.verdicts.specs.declared.Findings.{Findings}
 use Rattle.verdicts.specs.declared.Verdict.the-variants.{Refused}
 
 -- ---- the first failing row
 
-pub first-failing : {A : Type 0} (ss : List (Step A)) (none : Step A) (x : A) → First ss none x (firstFailing ss none x)
-unfolding firstFailing every
-first-failing [] none x = inl (tt, refl)
-first-failing {A} (s ∷ ss) none x =
-    test (s .fails x)
-    (λ t. let e : firstFailing (s ∷ ss) none x ≡ s = pick-yes (s .fails x) _ _ t in
-    subst (λ (y : Step A). First (s ∷ ss) none x y) (sym e) (inr ([], ss, refl, tt, t)))
-    (λ t. let e : firstFailing (s ∷ ss) none x ≡ firstFailing ss none x = pick-no (s .fails x) _ _ t in
-    subst (λ (y : Step A). First (s ∷ ss) none x y) (sym e) (later t (firstFailing ss none x) (first-failing ss none x)))
+-- the first row that fails; or none does, and it is `passed`
+abbrev pub FirstFailing : {A : Type 0} → List (Step A) → Step A → A → Step A → Type 0
+FirstFailing ss passed x s = First (λ y. y .fails x) ss s ⊎ (None (λ y. y .fails x) ss × (s ≡ passed))
+
+pub first-failing : {A : Type 0} (ss : List (Step A)) (passed : Step A) (x : A) → FirstFailing ss passed x (firstFailing ss passed x)
+unfolding firstFailing orElse
+first-failing {A} ss passed x = go (first (λ s. s .fails x) ss) (first-sought (λ s. s .fails x) ss)
   where
-    later : T (not (s .fails x)) → (y : Step A) → First ss none x y → First (s ∷ ss) none x y
-    later t y (inl (p, q)) = inl (both (not (s .fails x)) _ t p, q)
-    later t y (inr (a, b, q, p, u)) = inr (s ∷ a, b, ap (λ (z : List (Step A)). s ∷ z) q, both (not (s .fails x)) _ t p, u)
+    go : (o : Option (Step A)) → Sought (λ s. s .fails x) ss o → FirstFailing ss passed x (orElse o passed)
+    go none h = inr (h, refl)
+    go (some s) h = inl h
 
 -- what holds of every row holds of the answer
-first-holds : {A : Type 0} (P : Step A → Bool) (ss : List (Step A)) (none : Step A) (x : A) → T (every P ss) → T (P none) → T (P (firstFailing ss none x))
-unfolding firstFailing every
-first-holds P [] none x h k = k
-first-holds P (s ∷ ss) none x h k =
-    test (s .fails x)
-    (λ t. rw (pick-yes (s .fails x) s (firstFailing ss none x) t) (and-l (P s) (every P ss) h))
-    (λ t. rw (pick-no (s .fails x) s (firstFailing ss none x) t) (first-holds P ss none x (and-r (P s) (every P ss) h) k))
+failing-holds : {A : Type 0} (P : Step A → Type 0) (ss : List (Step A)) (passed : Step A) (x : A) → All P ss → P passed → P (firstFailing ss passed x)
+failing-holds {A} P ss passed x h k = go (firstFailing ss passed x) (first-failing ss passed x)
+  where
+    go : (s : Step A) → FirstFailing ss passed x s → P s
+    go s (inl f) = first-holds P (λ y. y .fails x) ss s h f
+    go s (inr (n, e)) = subst P (sym e) k
 
--- ---- the notice: "goes with 0 and 26 to 34"
+-- ---- the notice, by the number
+
+-- "A notice goes with 0 and 26 to 34"
+unfoldable pub takesNotice : ℕ → Bool
+takesNotice n = eqb n valid || (leb outside-period n && leb n signer-out-at-stamp)
 
 same-bool : Bool → Bool → Bool
 same-bool true b = b
@@ -52,27 +56,39 @@ same-bool-eq true false h = absurd h
 same-bool-eq false true h = absurd h
 same-bool-eq false false h = refl
 
--- the signature's table carries it so, and the seal's not at all
-pub signature-notice : (x : Facts) → firstFailing signatureSteps signatureValid x .carries ≡ takesNotice (firstFailing signatureSteps signatureValid x .number)
-unfolding takesNotice same-bool every
-signature-notice x =
-    same-bool-eq _ _ (first-holds (λ s. same-bool (s .carries) (takesNotice (s .number))) signatureSteps signatureValid x tt tt)
+-- by one test of the table's rows
+module _ (f : Step Facts → Bool) where
+  agrees : Step Facts → Bool
+  agrees s = same-bool (s .carries) (f s)
 
-pub seal-notice : (x : Facts) → firstFailing sealSteps sealValid x .carries ≡ false
-unfolding same-bool every
-seal-notice x = same-bool-eq _ _ (first-holds (λ s. same-bool (s .carries) false) sealSteps sealValid x tt tt)
+  rows-agree : (ss : List (Step Facts)) → T (every agrees ss) → All (λ s. s .carries ≡ f s) ss
+  unfolding every agrees
+  rows-agree [] h = tt
+  rows-agree (s ∷ ss) h = (same-bool-eq (s .carries) (f s) (and-l (agrees s) (every agrees ss) h), rows-agree ss (and-r (agrees s) (every agrees ss) h))
+
+  carried : (b : Rulebook) (x : Facts) → T (every agrees (b .passed ∷ b .steps)) → firstFailing (b .steps) (b .passed) x .carries ≡ f (firstFailing (b .steps) (b .passed) x)
+  carried b x h = let a = rows-agree (b .passed ∷ b .steps) h in failing-holds (λ s. s .carries ≡ f s) (b .steps) (b .passed) x (a .1) (a .0)
+
+-- the signature's table carries it so, and the seal's not at all
+pub signature-notice : (x : Facts) → firstFailing (signatureRules .steps) (signatureRules .passed) x .carries ≡ takesNotice (firstFailing (signatureRules .steps) (signatureRules .passed) x .number)
+unfolding takesNotice same-bool every agrees
+signature-notice x = carried (λ s. takesNotice (s .number)) signatureRules x tt
+
+pub seal-notice : (x : Facts) → firstFailing (sealRules .steps) (sealRules .passed) x .carries ≡ false
+unfolding same-bool every agrees
+seal-notice x = carried (λ s. false) sealRules x tt
 
 -- ---- what the verdict is, case by case
 
-pub weigh-refused : (ss : List (Step Facts)) (none : Step Facts) (r : Members) (n p : ℕ) (f : Findings) (a b : List ℕ) → weigh ss none r (fault n p) f a b ≡ Refused n p
-unfolding weigh
-weigh-refused ss none r n p f a b = refl
+module _ (b : Rulebook) where
+  pub weigh-refused : (n p : ℕ) (f : Findings) (original signer : List ℕ) → weigh b (fault n p) f original signer ≡ Refused n p
+  unfolding weigh
+  weigh-refused n p f original signer = refl
 
-pub weigh-judged : (ss : List (Step Facts)) (none : Step Facts) (r : Members) (v : Values r) (f : Findings) (a b : List ℕ) → T (allReal f)
-    → weigh ss none r (good v) f a b ≡ judged (firstFailing ss none (factsOf r v f a b)) (factsOf r v f a b)
-unfolding weigh
-weigh-judged ss none r v f a b h = pick-yes (allReal f) _ _ h
+  pub weigh-judged : (v : Values (b .layout)) (f : Findings) (original signer : List ℕ) → T (allReal f) → weigh b (good v) f original signer ≡ judged b (factsOf (b .layout) v f original signer)
+  unfolding weigh
+  weigh-judged v f original signer h = pick-yes (allReal f) _ _ h
 
-pub weigh-unreal : (ss : List (Step Facts)) (none : Step Facts) (r : Members) (v : Values r) (f : Findings) (a b : List ℕ) → T (not (allReal f)) → weigh ss none r (good v) f a b ≡ Refused unreal-time 0
-unfolding weigh
-weigh-unreal ss none r v f a b h = pick-no (allReal f) _ _ h
+  pub weigh-unreal : (v : Values (b .layout)) (f : Findings) (original signer : List ℕ) → T (not (allReal f)) → weigh b (good v) f original signer ≡ Refused unreal-time 0
+  unfolding weigh
+  weigh-unreal v f original signer h = pick-no (allReal f) _ _ h

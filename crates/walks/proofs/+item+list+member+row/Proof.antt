@@ -4,7 +4,7 @@ use lib.ListN.{length}
 use borrow.Author.Needs.{needs}
 use Rattle.tables.specs.Table.{inner, layoutOf, membersOf}
 use Rattle.walks.specs.Walk.{rowWalk, listWalk}
-use Rattle.walks.specs.Laws.{size, sizes, sizeOf, from, below, item-leaf, node-refused, node-members, node-less, list-refused, list-bad, list-all, list-less, wrap-refused, wrap-inner, wrap-close, wrap-less, member-blank, member-known, member-leaf, member-part, maybe-yes, maybe-no, flag-yes, flag-no, kinds-refused, kinds-one, kinds-two, part-less, maybe-less, one-less, two-less, row-refused, row-next, member-smaller, row-fewer, row-over, row-first, size-first, row-whole, chain, over, many-16, many-bad, many-on, many-end}
+use Rattle.walks.specs.Laws.{size, sizes, sizeOf, from, smaller, item-steps, list-steps, member-steps, row-steps, many-on, row-first, row-next, row-fewer, size-first, chain}
 use Prim.Native.Nat.{ℕ, suc, _-_, _<_, _≤_}
 use borrow.Fn.Kinds.{In}
 use borrow.Fn.PlainCycle.{Measures, is, falls, and}
@@ -20,19 +20,18 @@ use Rattle.walks.proofs.+item+list+member+row.Lts-member as member-lts
 use Rattle.walks.proofs.row.Reads as row
 use Rattle.walks.proofs.row.Kinds as row-kinds
 use Rattle.walks.proofs.+item+list+member+row.Lts-row as row-lts
-use Rattle.integers.proofs.is_one.Reads as is-one-reads
 use Rattle.items.proofs.head.Reads as head-reads
 use Rattle.leaves.proofs.begins.Reads as begins-reads
 use Rattle.leaves.proofs.close.Reads as close-reads
+use Rattle.leaves.proofs.is_content.Reads as is-content-reads
 use Rattle.leaves.proofs.known.Reads as known-reads
-use Rattle.leaves.proofs.leaf.Reads as leaf-reads
 use Rattle.leaves.proofs.past.Reads as past-reads
 use Rattle.places.proofs.note.Reads as note-reads
-use Rattle.walks.proofs.leaf.Reads as leaf-reads′
-use Rattle.walks.proofs.list_head.Reads as list-head-reads
 use Rattle.tables.proofs.kind_of.Reads as kind-of-reads
 use Rattle.tables.proofs.members_of.Reads as members-of-reads
 use Rattle.tables.proofs.tag_of.Reads as tag-of-reads
+use Rattle.walks.proofs.leaf.Reads as leaf-reads
+use Rattle.walks.proofs.list_head.Reads as list-head-reads
 use Rattle.walks.proofs.+item+list+member+row.{statement}
 use Rattle.walks.proofs.+item+list+member+row.Tie.{close}
 
@@ -73,13 +72,13 @@ abbrev row-below : ℕ → In 2 row-kinds.ps
 row-below t = and 2 row-kinds.ps (falls 2 row-kinds.ps _<_ μ-row t) row.Pre
 
 abbrev item-c : ℕ → item-lts.Claims
-item-c t = (kind-of-reads.Asked, kind-of-reads.Learnt, leaf-reads′.Asked, leaf-reads′.Learnt, head-reads.Asked, head-reads.Learnt, past-reads.Asked, past-reads.Learnt, note-reads.Asked, note-reads.Learnt, row-below t, row.Post, list-head-reads.Asked, list-head-reads.Learnt, list-below t, list.Post, item-below t, item.Post, close-reads.Asked, close-reads.Learnt)
+item-c t = (kind-of-reads.Asked, kind-of-reads.Learnt, leaf-reads.Asked, leaf-reads.Learnt, past-reads.Asked, past-reads.Learnt, head-reads.Asked, head-reads.Learnt, note-reads.Asked, note-reads.Learnt, row-below t, row.Post, list-head-reads.Asked, list-head-reads.Learnt, list-below t, list.Post, item-below t, item.Post, close-reads.Asked, close-reads.Learnt)
 
 abbrev list-c : ℕ → list-lts.Claims
 list-c t = (item-below t, item.Post)
 
 abbrev member-c : ℕ → member-lts.Claims
-member-c t = (known-reads.Asked, known-reads.Learnt, past-reads.Asked, past-reads.Learnt, leaf-reads′.Asked, leaf-reads′.Learnt, item-below t, item.Post, tag-of-reads.Asked, tag-of-reads.Learnt, begins-reads.Asked, begins-reads.Learnt, leaf-reads.Asked, leaf-reads.Learnt, note-reads.Asked, note-reads.Learnt, is-one-reads.Asked, is-one-reads.Learnt)
+member-c t = (known-reads.Asked, known-reads.Learnt, past-reads.Asked, past-reads.Learnt, leaf-reads.Asked, leaf-reads.Learnt, item-below t, item.Post, tag-of-reads.Asked, tag-of-reads.Learnt, begins-reads.Asked, begins-reads.Learnt, is-content-reads.Asked, is-content-reads.Learnt)
 
 abbrev row-c : ℕ → row-lts.Claims
 row-c t = (members-of-reads.Asked, members-of-reads.Learnt, member-below t, member.Post, close-reads.Asked, close-reads.Learnt)
@@ -93,6 +92,9 @@ item-enum-known-k t c = search needs
 item-leaf-requires : (t : ℕ) → item-lts.Need-leaf-requires (item-c t) (item-at t) item.Post
 item-leaf-requires t c κs = search needs
 
+item-past-requires : (t : ℕ) → item-lts.Need-past-requires (item-c t) (item-at t) item.Post
+item-past-requires t c κs = search needs
+
 item-enum-known-k-2 : (t : ℕ) → item-lts.Need-enum-known-k-2 (item-c t) (item-at t) item.Post
 item-enum-known-k-2 t c = search needs
 
@@ -105,17 +107,17 @@ item-enum-known-h t c = search needs
 item-enum-told : (t : ℕ) → item-lts.Need-enum-told (item-c t) (item-at t) item.Post
 item-enum-told t c = search needs
 
-item-past-requires : (t : ℕ) → item-lts.Need-past-requires (item-c t) (item-at t) item.Post
-item-past-requires t c κs = search needs
+item-past-requires-2 : (t : ℕ) → item-lts.Need-past-requires-2 (item-c t) (item-at t) item.Post
+item-past-requires-2 t c κs = search needs
 
 item-returns : (t : ℕ) → item-lts.Need-returns (item-c t) (item-at t) item.Post
-item-returns t c = search (needs, node-refused)
+item-returns t c = search (needs, item-steps)
 
 item-note-requires : (t : ℕ) → item-lts.Need-note-requires (item-c t) (item-at t) item.Post
 item-note-requires t c κs = search needs
 
 item-row-requires : (t : ℕ) → item-lts.Need-row-requires (item-c t) (item-at t) item.Post
-item-row-requires t c κs = search (needs, below, node-less)
+item-row-requires t c κs = search (needs, smaller)
 
 item-enum-known-k-3 : (t : ℕ) → item-lts.Need-enum-known-k-3 (item-c t) (item-at t) item.Post
 item-enum-known-k-3 t c = search needs
@@ -129,14 +131,14 @@ item-enum-known-h-2 t c = search needs
 item-enum-told-2 : (t : ℕ) → item-lts.Need-enum-told-2 (item-c t) (item-at t) item.Post
 item-enum-told-2 t c = search needs
 
-item-past-requires-2 : (t : ℕ) → item-lts.Need-past-requires-2 (item-c t) (item-at t) item.Post
-item-past-requires-2 t c κs = search needs
+item-past-requires-3 : (t : ℕ) → item-lts.Need-past-requires-3 (item-c t) (item-at t) item.Post
+item-past-requires-3 t c κs = search needs
 
 item-returns-2 : (t : ℕ) → item-lts.Need-returns-2 (item-c t) (item-at t) item.Post
-item-returns-2 t c = search (needs, list-refused)
+item-returns-2 t c = search (needs, item-steps)
 
 item-list-requires : (t : ℕ) → item-lts.Need-list-requires (item-c t) (item-at t) item.Post
-item-list-requires t c κs = search (needs, below, list-less)
+item-list-requires t c κs = search (needs, smaller)
 
 item-enum-known-c : (t : ℕ) → item-lts.Need-enum-known-c (item-c t) (item-at t) item.Post
 item-enum-known-c t c = search needs
@@ -159,14 +161,14 @@ item-enum-known-h-3 t c = search needs
 item-enum-told-3 : (t : ℕ) → item-lts.Need-enum-told-3 (item-c t) (item-at t) item.Post
 item-enum-told-3 t c = search needs
 
-item-past-requires-3 : (t : ℕ) → item-lts.Need-past-requires-3 (item-c t) (item-at t) item.Post
-item-past-requires-3 t c κs = search needs
+item-past-requires-4 : (t : ℕ) → item-lts.Need-past-requires-4 (item-c t) (item-at t) item.Post
+item-past-requires-4 t c κs = search needs
 
 item-returns-3 : (t : ℕ) → item-lts.Need-returns-3 (item-c t) (item-at t) item.Post
-item-returns-3 t c = search (needs, wrap-refused)
+item-returns-3 t c = search (needs, item-steps)
 
 item-item-requires : (t : ℕ) → item-lts.Need-item-requires (item-c t) (item-at t) item.Post
-item-item-requires t c κs = search (needs, below, wrap-less)
+item-item-requires t c κs = search (needs, smaller)
 
 item-enum-known-r : (t : ℕ) → item-lts.Need-enum-known-r (item-c t) (item-at t) item.Post
 item-enum-known-r t c = search needs
@@ -178,7 +180,7 @@ item-same-length : (t : ℕ) → item-lts.Need-same-length (item-c t) (item-at t
 item-same-length t c = search needs
 
 item-returns-4 : (t : ℕ) → item-lts.Need-returns-4 (item-c t) (item-at t) item.Post
-item-returns-4 t c = search (needs, wrap-inner)
+item-returns-4 t c = search (needs, item-steps)
 
 item-close-requires : (t : ℕ) → item-lts.Need-close-requires (item-c t) (item-at t) item.Post
 item-close-requires t c κs = search needs
@@ -187,31 +189,31 @@ item-same-length-2 : (t : ℕ) → item-lts.Need-same-length-2 (item-c t) (item-
 item-same-length-2 t c = search needs
 
 item-returns-5 : (t : ℕ) → item-lts.Need-returns-5 (item-c t) (item-at t) item.Post
-item-returns-5 t c = search (needs, item-leaf)
+item-returns-5 t c = search (needs, item-steps)
 
 item-same-length-3 : (t : ℕ) → item-lts.Need-same-length-3 (item-c t) (item-at t) item.Post
 item-same-length-3 t c = search needs
 
 item-returns-6 : (t : ℕ) → item-lts.Need-returns-6 (item-c t) (item-at t) item.Post
-item-returns-6 t c = search (needs, node-members)
+item-returns-6 t c = search (needs, item-steps)
 
 item-same-length-4 : (t : ℕ) → item-lts.Need-same-length-4 (item-c t) (item-at t) item.Post
 item-same-length-4 t c = search needs
 
 item-returns-7 : (t : ℕ) → item-lts.Need-returns-7 (item-c t) (item-at t) item.Post
-item-returns-7 t c = search (needs, list-bad)
+item-returns-7 t c = search (needs, item-steps)
 
 item-same-length-5 : (t : ℕ) → item-lts.Need-same-length-5 (item-c t) (item-at t) item.Post
 item-same-length-5 t c = search needs
 
 item-returns-8 : (t : ℕ) → item-lts.Need-returns-8 (item-c t) (item-at t) item.Post
-item-returns-8 t c = search (needs, list-all)
+item-returns-8 t c = search (needs, item-steps)
 
 item-same-length-6 : (t : ℕ) → item-lts.Need-same-length-6 (item-c t) (item-at t) item.Post
 item-same-length-6 t c = search needs
 
 item-returns-9 : (t : ℕ) → item-lts.Need-returns-9 (item-c t) (item-at t) item.Post
-item-returns-9 t c = search (needs, wrap-close)
+item-returns-9 t c = search (needs, item-steps)
 
 abbrev list-Inv-loop : list-lts.InvT-loop
 list-Inv-loop s x name at end places₀ p₀ k₀ places p k = (k ≤ 64) × (length places ≡ length places₀) × (listWalk (layoutOf x) name 0 s at end places₀ ≡ listWalk (layoutOf x) name k s p end places)
@@ -219,80 +221,94 @@ list-Inv-loop s x name at end places₀ p₀ k₀ places p k = (k ≤ 64) × (le
 abbrev list-μ-loop : list-lts.MeasureT-loop
 list-μ-loop s x name at end places₀ p₀ k₀ places p k = 64 - k
 
-list-loop-holds : (t : ℕ) → list-lts.Need-loop-holds (list-c t) (list-at t)
-    list.Post
-    list-Inv-loop
-    list-μ-loop
+list-loop-holds :
+    (t : ℕ) →
+    list-lts.Need-loop-holds
+    (list-c t)
+    (list-at t) list.Post list-Inv-loop list-μ-loop
 list-loop-holds t c = (search needs, search needs, search needs)
 
-list-same-length : (t : ℕ) → list-lts.Need-same-length (list-c t) (list-at t)
-    list.Post
-    list-Inv-loop
-    list-μ-loop
+list-same-length :
+    (t : ℕ) →
+    list-lts.Need-same-length
+    (list-c t)
+    (list-at t) list.Post list-Inv-loop list-μ-loop
 list-same-length t c = search needs
 
-list-returns : (t : ℕ) → list-lts.Need-returns (list-c t) (list-at t)
-    list.Post
-    list-Inv-loop
-    list-μ-loop
-list-returns t c = search (needs, over, many-16)
+list-returns :
+    (t : ℕ) →
+    list-lts.Need-returns
+    (list-c t)
+    (list-at t) list.Post list-Inv-loop list-μ-loop
+list-returns t c = search (needs, list-steps)
 
-list-item-requires : (t : ℕ) → list-lts.Need-item-requires (list-c t) (list-at t)
-    list.Post
-    list-Inv-loop
-    list-μ-loop
-list-item-requires t c κs = search needs
+list-item-requires :
+    (t : ℕ) →
+    list-lts.Need-item-requires
+    (list-c t)
+    (list-at t) list.Post list-Inv-loop list-μ-loop
+list-item-requires t c κs = search (needs, smaller)
 
-list-enum-known-r : (t : ℕ) → list-lts.Need-enum-known-r (list-c t) (list-at t)
-    list.Post
-    list-Inv-loop
-    list-μ-loop
+list-enum-known-r :
+    (t : ℕ) →
+    list-lts.Need-enum-known-r
+    (list-c t)
+    (list-at t) list.Post list-Inv-loop list-μ-loop
 list-enum-known-r t c = search needs
 
-list-same-length-2 : (t : ℕ) → list-lts.Need-same-length-2 (list-c t) (list-at t)
-    list.Post
-    list-Inv-loop
-    list-μ-loop
+list-same-length-2 :
+    (t : ℕ) →
+    list-lts.Need-same-length-2
+    (list-c t)
+    (list-at t) list.Post list-Inv-loop list-μ-loop
 list-same-length-2 t c = search needs
 
-list-returns-2 : (t : ℕ) → list-lts.Need-returns-2 (list-c t) (list-at t)
-    list.Post
-    list-Inv-loop
-    list-μ-loop
-list-returns-2 t c = search (needs, over, many-bad)
+list-returns-2 :
+    (t : ℕ) →
+    list-lts.Need-returns-2
+    (list-c t)
+    (list-at t) list.Post list-Inv-loop list-μ-loop
+list-returns-2 t c = search (needs, list-steps)
 
-list-enum-known-r-2 : (t : ℕ) → list-lts.Need-enum-known-r-2 (list-c t) (list-at t)
-    list.Post
-    list-Inv-loop
-    list-μ-loop
+list-enum-known-r-2 :
+    (t : ℕ) →
+    list-lts.Need-enum-known-r-2
+    (list-c t)
+    (list-at t) list.Post list-Inv-loop list-μ-loop
 list-enum-known-r-2 t c = search needs
 
-list-add-k : (t : ℕ) → list-lts.Need-add-k (list-c t) (list-at t) list.Post list-Inv-loop list-μ-loop
+list-add-k :
+    (t : ℕ) →
+    list-lts.Need-add-k (list-c t) (list-at t) list.Post list-Inv-loop list-μ-loop
 list-add-k t c = search needs
 
-list-loop-less : (t : ℕ) → list-lts.Need-loop-less (list-c t) (list-at t)
-    list.Post
-    list-Inv-loop
-    list-μ-loop
+list-loop-less :
+    (t : ℕ) →
+    list-lts.Need-loop-less
+    (list-c t)
+    (list-at t) list.Post list-Inv-loop list-μ-loop
 list-loop-less t c = search needs
 
-list-loop-again : (t : ℕ) → list-lts.Need-loop-again (list-c t) (list-at t)
-    list.Post
-    list-Inv-loop
-    list-μ-loop
+list-loop-again :
+    (t : ℕ) →
+    list-lts.Need-loop-again
+    (list-c t)
+    (list-at t) list.Post list-Inv-loop list-μ-loop
 list-loop-again t c = (search needs, search needs, search (needs, chain, many-on))
 
-list-same-length-3 : (t : ℕ) → list-lts.Need-same-length-3 (list-c t) (list-at t)
-    list.Post
-    list-Inv-loop
-    list-μ-loop
+list-same-length-3 :
+    (t : ℕ) →
+    list-lts.Need-same-length-3
+    (list-c t)
+    (list-at t) list.Post list-Inv-loop list-μ-loop
 list-same-length-3 t c = search needs
 
-list-returns-3 : (t : ℕ) → list-lts.Need-returns-3 (list-c t) (list-at t)
-    list.Post
-    list-Inv-loop
-    list-μ-loop
-list-returns-3 t c = search (needs, over, many-end)
+list-returns-3 :
+    (t : ℕ) →
+    list-lts.Need-returns-3
+    (list-c t)
+    (list-at t) list.Post list-Inv-loop list-μ-loop
+list-returns-3 t c = search (needs, list-steps)
 
 member-enum-told : (t : ℕ) → member-lts.Need-enum-told (member-c t) (member-at t) member.Post
 member-enum-told t c = search needs
@@ -312,11 +328,14 @@ member-enum-known-m-2 t c = search needs
 member-leaf-requires : (t : ℕ) → member-lts.Need-leaf-requires (member-c t) (member-at t) member.Post
 member-leaf-requires t c κs = search needs
 
+member-past-requires-2 : (t : ℕ) → member-lts.Need-past-requires-2 (member-c t) (member-at t) member.Post
+member-past-requires-2 t c κs = search needs
+
 member-enum-known-m-3 : (t : ℕ) → member-lts.Need-enum-known-m-3 (member-c t) (member-at t) member.Post
 member-enum-known-m-3 t c = search needs
 
 member-item-requires : (t : ℕ) → member-lts.Need-item-requires (member-c t) (member-at t) member.Post
-member-item-requires t c κs = search (needs, below, part-less)
+member-item-requires t c κs = search (needs, smaller)
 
 member-enum-known-m-4 : (t : ℕ) → member-lts.Need-enum-known-m-4 (member-c t) (member-at t) member.Post
 member-enum-known-m-4 t c = search needs
@@ -328,13 +347,13 @@ member-begins-requires : (t : ℕ) → member-lts.Need-begins-requires (member-c
 member-begins-requires t c κs = search needs
 
 member-item-requires-2 : (t : ℕ) → member-lts.Need-item-requires-2 (member-c t) (member-at t) member.Post
-member-item-requires-2 t c κs = search (needs, below, maybe-less)
+member-item-requires-2 t c κs = search (needs, smaller)
 
 member-same-length : (t : ℕ) → member-lts.Need-same-length (member-c t) (member-at t) member.Post
 member-same-length t c = search needs
 
 member-returns : (t : ℕ) → member-lts.Need-returns (member-c t) (member-at t) member.Post
-member-returns t c = search (needs, maybe-yes)
+member-returns t c = search (needs, member-steps)
 
 member-enum-known-m-5 : (t : ℕ) → member-lts.Need-enum-known-m-5 (member-c t) (member-at t) member.Post
 member-enum-known-m-5 t c = search needs
@@ -345,11 +364,14 @@ member-begins-requires-2 t c κs = search needs
 member-leaf-requires-2 : (t : ℕ) → member-lts.Need-leaf-requires-2 (member-c t) (member-at t) member.Post
 member-leaf-requires-2 t c κs = search needs
 
+member-past-requires-3 : (t : ℕ) → member-lts.Need-past-requires-3 (member-c t) (member-at t) member.Post
+member-past-requires-3 t c κs = search needs
+
 member-same-length-2 : (t : ℕ) → member-lts.Need-same-length-2 (member-c t) (member-at t) member.Post
 member-same-length-2 t c = search needs
 
 member-returns-2 : (t : ℕ) → member-lts.Need-returns-2 (member-c t) (member-at t) member.Post
-member-returns-2 t c = search (needs, flag-yes)
+member-returns-2 t c = search (needs, member-steps)
 
 member-enum-known-m-6 : (t : ℕ) → member-lts.Need-enum-known-m-6 (member-c t) (member-at t) member.Post
 member-enum-known-m-6 t c = search needs
@@ -363,59 +385,59 @@ member-enum-known-h t c = search needs
 member-enum-told-2 : (t : ℕ) → member-lts.Need-enum-told-2 (member-c t) (member-at t) member.Post
 member-enum-told-2 t c = search needs
 
-member-past-requires-2 : (t : ℕ) → member-lts.Need-past-requires-2 (member-c t) (member-at t) member.Post
-member-past-requires-2 t c κs = search needs
-
-member-returns-3 : (t : ℕ) → member-lts.Need-returns-3 (member-c t) (member-at t) member.Post
-member-returns-3 t c = search (needs, kinds-refused)
-
-member-note-requires : (t : ℕ) → member-lts.Need-note-requires (member-c t) (member-at t) member.Post
-member-note-requires t c κs = search needs
-
-member-is-one-requires : (t : ℕ) → member-lts.Need-is-one-requires (member-c t) (member-at t) member.Post
-member-is-one-requires t c κs = search needs
-
-member-item-requires-3 : (t : ℕ) → member-lts.Need-item-requires-3 (member-c t) (member-at t) member.Post
-member-item-requires-3 t c κs = search (needs, below, one-less)
+member-past-requires-4 : (t : ℕ) → member-lts.Need-past-requires-4 (member-c t) (member-at t) member.Post
+member-past-requires-4 t c κs = search needs
 
 member-same-length-3 : (t : ℕ) → member-lts.Need-same-length-3 (member-c t) (member-at t) member.Post
 member-same-length-3 t c = search needs
 
-member-returns-4 : (t : ℕ) → member-lts.Need-returns-4 (member-c t) (member-at t) member.Post
-member-returns-4 t c = search (needs, kinds-one)
+member-returns-3 : (t : ℕ) → member-lts.Need-returns-3 (member-c t) (member-at t) member.Post
+member-returns-3 t c = search (needs, member-steps)
 
-member-item-requires-4 : (t : ℕ) → member-lts.Need-item-requires-4 (member-c t) (member-at t) member.Post
-member-item-requires-4 t c κs = search (needs, below, two-less)
+member-is-content-requires : (t : ℕ) → member-lts.Need-is-content-requires (member-c t) (member-at t) member.Post
+member-is-content-requires t c κs = search needs
 
-member-returns-5 : (t : ℕ) → member-lts.Need-returns-5 (member-c t) (member-at t) member.Post
-member-returns-5 t c = search (needs, member-blank)
-
-member-returns-6 : (t : ℕ) → member-lts.Need-returns-6 (member-c t) (member-at t) member.Post
-member-returns-6 t c = search (needs, member-known)
+member-item-requires-3 : (t : ℕ) → member-lts.Need-item-requires-3 (member-c t) (member-at t) member.Post
+member-item-requires-3 t c κs = search (needs, smaller)
 
 member-same-length-4 : (t : ℕ) → member-lts.Need-same-length-4 (member-c t) (member-at t) member.Post
 member-same-length-4 t c = search needs
 
-member-returns-7 : (t : ℕ) → member-lts.Need-returns-7 (member-c t) (member-at t) member.Post
-member-returns-7 t c = search (needs, member-leaf)
+member-returns-4 : (t : ℕ) → member-lts.Need-returns-4 (member-c t) (member-at t) member.Post
+member-returns-4 t c = search (needs, member-steps)
+
+member-item-requires-4 : (t : ℕ) → member-lts.Need-item-requires-4 (member-c t) (member-at t) member.Post
+member-item-requires-4 t c κs = search (needs, smaller)
+
+member-returns-5 : (t : ℕ) → member-lts.Need-returns-5 (member-c t) (member-at t) member.Post
+member-returns-5 t c = search (needs, member-steps)
+
+member-returns-6 : (t : ℕ) → member-lts.Need-returns-6 (member-c t) (member-at t) member.Post
+member-returns-6 t c = search (needs, member-steps)
 
 member-same-length-5 : (t : ℕ) → member-lts.Need-same-length-5 (member-c t) (member-at t) member.Post
 member-same-length-5 t c = search needs
 
-member-returns-8 : (t : ℕ) → member-lts.Need-returns-8 (member-c t) (member-at t) member.Post
-member-returns-8 t c = search (needs, member-part)
-
-member-returns-9 : (t : ℕ) → member-lts.Need-returns-9 (member-c t) (member-at t) member.Post
-member-returns-9 t c = search (needs, maybe-no)
-
-member-returns-10 : (t : ℕ) → member-lts.Need-returns-10 (member-c t) (member-at t) member.Post
-member-returns-10 t c = search (needs, flag-no)
+member-returns-7 : (t : ℕ) → member-lts.Need-returns-7 (member-c t) (member-at t) member.Post
+member-returns-7 t c = search (needs, member-steps)
 
 member-same-length-6 : (t : ℕ) → member-lts.Need-same-length-6 (member-c t) (member-at t) member.Post
 member-same-length-6 t c = search needs
 
+member-returns-8 : (t : ℕ) → member-lts.Need-returns-8 (member-c t) (member-at t) member.Post
+member-returns-8 t c = search (needs, member-steps)
+
+member-returns-9 : (t : ℕ) → member-lts.Need-returns-9 (member-c t) (member-at t) member.Post
+member-returns-9 t c = search (needs, member-steps)
+
+member-returns-10 : (t : ℕ) → member-lts.Need-returns-10 (member-c t) (member-at t) member.Post
+member-returns-10 t c = search (needs, member-steps)
+
+member-same-length-7 : (t : ℕ) → member-lts.Need-same-length-7 (member-c t) (member-at t) member.Post
+member-same-length-7 t c = search needs
+
 member-returns-11 : (t : ℕ) → member-lts.Need-returns-11 (member-c t) (member-at t) member.Post
-member-returns-11 t c = search (needs, kinds-two)
+member-returns-11 t c = search (needs, member-steps)
 
 abbrev row-Inv-loop : row-lts.InvT-loop
 row-Inv-loop s index at end places₀ members p₀ k₀ places p k = (k ≤ 6) × (length members ≡ 6) × (length places ≡ length places₀) × (sizes (from k members) ≤ sizes (membersOf members)) × (rowWalk (membersOf members) index s at end places₀ ≡ rowWalk (from k members) index s p end places)
@@ -436,7 +458,7 @@ row-array-copy-out-member : (t : ℕ) → row-lts.Need-array-copy-out-member (ro
 row-array-copy-out-member t c = search needs
 
 row-member-requires : (t : ℕ) → row-lts.Need-member-requires (row-c t) (row-at t) row.Post row-Inv-loop row-μ-loop
-row-member-requires t c κs = search (needs, member-smaller)
+row-member-requires t c κs = search (needs, smaller)
 
 row-enum-known-passed : (t : ℕ) → row-lts.Need-enum-known-passed (row-c t) (row-at t) row.Post row-Inv-loop row-μ-loop
 row-enum-known-passed t c = search needs
@@ -448,7 +470,7 @@ row-same-length : (t : ℕ) → row-lts.Need-same-length (row-c t) (row-at t) ro
 row-same-length t c = search needs
 
 row-returns : (t : ℕ) → row-lts.Need-returns (row-c t) (row-at t) row.Post row-Inv-loop row-μ-loop
-row-returns t c = search (needs, row-whole, row-refused)
+row-returns t c = search (needs, row-steps)
 
 row-add-k : (t : ℕ) → row-lts.Need-add-k (row-c t) (row-at t) row.Post row-Inv-loop row-μ-loop
 row-add-k t c = search needs
@@ -466,7 +488,7 @@ row-same-length-2 : (t : ℕ) → row-lts.Need-same-length-2 (row-c t) (row-at t
 row-same-length-2 t c = search needs
 
 row-returns-2 : (t : ℕ) → row-lts.Need-returns-2 (row-c t) (row-at t) row.Post row-Inv-loop row-μ-loop
-row-returns-2 t c = search (needs, row-whole, row-over)
+row-returns-2 t c = search (needs, row-steps)
 
 pub +item+list+member+row-spec : {M : Type 1} → statement M
 +item+list+member+row-spec = close μ-item μ-list μ-member μ-row (λ t. item-lts.spec (item-c t)
@@ -475,11 +497,12 @@ pub +item+list+member+row-spec : {M : Type 1} → statement M
     (item-kind-of-requires t)
     (item-enum-known-k t)
     (item-leaf-requires t)
+    (item-past-requires t)
     (item-enum-known-k-2 t)
     (item-head-requires t)
     (item-enum-known-h t)
     (item-enum-told t)
-    (item-past-requires t)
+    (item-past-requires-2 t)
     (item-returns t)
     (item-note-requires t)
     (item-row-requires t)
@@ -487,7 +510,7 @@ pub +item+list+member+row-spec : {M : Type 1} → statement M
     (item-list-head-requires t)
     (item-enum-known-h-2 t)
     (item-enum-told-2 t)
-    (item-past-requires-2 t)
+    (item-past-requires-3 t)
     (item-returns-2 t)
     (item-list-requires t)
     (item-enum-known-c t)
@@ -497,7 +520,7 @@ pub +item+list+member+row-spec : {M : Type 1} → statement M
     (item-head-requires-2 t)
     (item-enum-known-h-3 t)
     (item-enum-told-3 t)
-    (item-past-requires-3 t)
+    (item-past-requires-4 t)
     (item-returns-3 t)
     (item-item-requires t)
     (item-enum-known-r t)
@@ -517,10 +540,7 @@ pub +item+list+member+row-spec : {M : Type 1} → statement M
     (item-returns-9 t))
     (λ t. list-lts.spec
     (list-c t)
-    (list-at t)
-    list.Post
-    list-Inv-loop
-    list-μ-loop
+    (list-at t) list.Post list-Inv-loop list-μ-loop
     (list-loop-holds t)
     (list-same-length t)
     (list-returns t)
@@ -543,6 +563,7 @@ pub +item+list+member+row-spec : {M : Type 1} → statement M
     (member-past-requires t)
     (member-enum-known-m-2 t)
     (member-leaf-requires t)
+    (member-past-requires-2 t)
     (member-enum-known-m-3 t)
     (member-item-requires t)
     (member-enum-known-m-4 t)
@@ -554,35 +575,33 @@ pub +item+list+member+row-spec : {M : Type 1} → statement M
     (member-enum-known-m-5 t)
     (member-begins-requires-2 t)
     (member-leaf-requires-2 t)
+    (member-past-requires-3 t)
     (member-same-length-2 t)
     (member-returns-2 t)
     (member-enum-known-m-6 t)
     (member-leaf-requires-3 t)
     (member-enum-known-h t)
     (member-enum-told-2 t)
-    (member-past-requires-2 t)
-    (member-returns-3 t)
-    (member-note-requires t)
-    (member-is-one-requires t)
-    (member-item-requires-3 t)
+    (member-past-requires-4 t)
     (member-same-length-3 t)
+    (member-returns-3 t)
+    (member-is-content-requires t)
+    (member-item-requires-3 t)
+    (member-same-length-4 t)
     (member-returns-4 t)
     (member-item-requires-4 t)
     (member-returns-5 t)
     (member-returns-6 t)
-    (member-same-length-4 t)
-    (member-returns-7 t)
     (member-same-length-5 t)
+    (member-returns-7 t)
+    (member-same-length-6 t)
     (member-returns-8 t)
     (member-returns-9 t)
     (member-returns-10 t)
-    (member-same-length-6 t)
+    (member-same-length-7 t)
     (member-returns-11 t))
     λ t. row-lts.spec (row-c t)
-    (row-at t)
-    row.Post
-    row-Inv-loop
-    row-μ-loop
+    (row-at t) row.Post row-Inv-loop row-μ-loop
     (row-members-of-requires t)
     (row-loop-holds t)
     (row-mul-member t)

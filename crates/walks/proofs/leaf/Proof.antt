@@ -13,9 +13,6 @@ enum-known-h c = search needs
 enum-told : tie.Need-enum-told
 enum-told c = search needs
 
-past-requires : tie.Need-past-requires
-past-requires c κs = search needs
-
 returns : tie.Need-returns
 returns c = search (needs, leaf-refused)
 
@@ -41,7 +38,6 @@ leaf-spec =
     leaf-requires
     enum-known-h
     enum-told
-    past-requires
     returns
     hidden-of-requires
     add-note
