@@ -5,13 +5,14 @@ use mathlib.Core.List.{List, [], _∷_, _++_}
 use lib.ListN.{set, take}
 use lib.IntN.{pos}
 use Rattle.terms.specs.Numbers.{done, other-tag, past-end, bad-character, too-large, run-end}
-use Rattle.terms.specs.Answer.{Told, refuses, told-one, told-two, told-none}
+use Rattle.terms.specs.Answer.{Told, gives, refuses, told-one, told-two, told-none}
 use Rattle.terms.specs.Laws.Table.{Row, asks, answers, agreed}
 use Rattle.records.specs.Record.{seal, signature}
 use Rattle.records.specs.Samples.{recordS, recordD}
 use Rattle.records.specs.Examples.{evaluate, sealS}
-use Rattle.runs.specs.Run.{andThen, onward, runFrom, readRun, runAnswer, Reader, made, hereIn, hereAt, oneMore, stepAfter, stepAnswer, handedRecord}
+use Rattle.runs.specs.Run.{andThen, onward, runFrom, readRun, runAnswer, Reader, made, hereIn, hereAt, oneMore, stepAfter, stepAnswer, handedRecord, toldStepped, toldCounted}
 use Rattle.runs.specs.declared.Stepped.the-variants.{Record, End, Refused}
+use Rattle.runs.specs.declared.Counted.the-variants.{Records, Refused as RunRefused}
 
 evaluateRun : Unit {0}
 unfolding evaluate andThen onward runFrom readRun runAnswer hereIn hereAt oneMore stepAfter stepAnswer
@@ -120,6 +121,20 @@ elsewhere =
 reader-steps : asks (steps ++ elsewhere) ≡ answers (steps ++ elsewhere)
 unfolding evaluateRun
 reader-steps = agreed (steps ++ elsewhere) tt
+
+-- the code's answers in numbers: 0 for what is there, 255 for the end of a run (03, 42), a refusal with its own and the records before it
+abbrev tellings : List Row
+tellings =
+    (toldStepped (Record 165 170), gives 0 (pos 165 ∷ pos 170 ∷ []))
+    ∷ (toldStepped End, gives 255 [])
+    ∷ (toldStepped (Refused 2 165 1), refuses 2 (pos 165 ∷ pos 1 ∷ []))
+    ∷ (toldCounted (Records 2), gives 0 (pos 2 ∷ []))
+    ∷ (toldCounted (RunRefused 2 165 1), refuses 2 (pos 165 ∷ pos 1 ∷ []))
+    ∷ []
+
+told-answers : asks tellings ≡ answers tellings
+unfolding evaluateRun
+told-answers = agreed tellings tt
 
 -- the part handed out: the record, else "empty, at the run's start" (03, 37)
 handings : handedRecord (Record 165 165) ∷ handedRecord End ∷ handedRecord (Refused other-tag 165 1) ∷ [] ≡ (165, 165) ∷ (0, 0) ∷ (0, 0) ∷ []

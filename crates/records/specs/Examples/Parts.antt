@@ -1,17 +1,22 @@
 -- What is handed out as a part, by every name that has one, evaluated. The expected places are those of the bytes of S and D. Assumes nothing.
 use mathlib.Core.Path.{_≡_, refl}
 use Prim.Native.Nat.{ℕ}
+use mathlib.Core.Bool.{true, false}
 use mathlib.Core.List.{List, [], _∷_, _++_}
 use lib.ListN.{set, take, drop}
+use lib.IntN.{pos, negsuc}
 use Rattle.terms.specs.declared.Field.the-variants.{SealInformation, Header, Vendor, SealId, Property, SealType, SealName, ListKind, CertificateList, ListedCertificate, ListedEntry, ListedType, ListedDigest, Created, Start, End, Picture, PictureType, PictureData, Width, Height, SealCustomData, SealCustomItem, SealCustomId, SealCustomCritical, SealCustomValue, MakerCertificate, SealAlgorithm, SealSignedValue, SignedPart, Seal, SigningTime, OriginalDigest, PropertyText, SignedCustomData, SignedCustomItem, SignedCustomId, SignedCustomCritical, SignedCustomValue, SignerCertificate, SignatureAlgorithm, SignatureValue, Stamp}
 use Rattle.terms.specs.Numbers.{absent, bad-length, item-missing}
-use Rattle.terms.specs.Answer.{told-none, refusal}
+use Rattle.terms.specs.Answer.{gives, refuses, told-none, refusal}
 use Rattle.terms.specs.Laws.Table.{Row, asks, answers, agreed}
 use Rattle.records.specs.Record.{seal, signature}
-use Rattle.records.specs.Handing.{fieldAnswer, matchAnswer, handedOut}
+use Rattle.records.specs.Handing.{fieldAnswer, matchAnswer, toldPart, toldNumber, toldIs, toldItems, handedOut}
 use Rattle.records.specs.Samples.{recordS, recordD}
 use Rattle.records.specs.Examples.{evaluate, at, sealD}
 use Rattle.records.specs.declared.Part.the-variants.{There, Absent, Refused}
+use Rattle.records.specs.declared.Number.the-variants.{Value, Absent as NoNumber, Refused as NumberRefused}
+use Rattle.records.specs.declared.Critical.the-variants.{Is, Absent as NoCritical, Refused as CriticalRefused}
+use Rattle.records.specs.declared.Items.the-variants.{Count, Absent as NoItems, Refused as ItemsRefused}
 
 -- S with a second certificate AA: each length around it is 3 more
 abbrev twice : List ℕ
@@ -91,6 +96,28 @@ partsD =
 parts-of-D : asks partsD ≡ answers partsD
 unfolding evaluate
 parts-of-D = agreed partsD tt
+
+-- the code's answers in numbers: 0 for what is there, 254 for what is absent (03, 42), a refusal with its own
+abbrev tellings : List Row
+tellings =
+    (toldPart (There 26 4), gives 0 (pos 26 ∷ pos 4 ∷ []))
+    ∷ (toldPart Absent, gives 254 [])
+    ∷ (toldPart (Refused 3 7), refuses 3 (pos 7 ∷ []))
+    ∷ (toldNumber (Value (negsuc 2)), gives 0 (negsuc 2 ∷ []))
+    ∷ (toldNumber NoNumber, gives 254 [])
+    ∷ (toldNumber (NumberRefused 3 7), refuses 3 (pos 7 ∷ []))
+    ∷ (toldIs (Is true), gives 0 (pos 1 ∷ []))
+    ∷ (toldIs (Is false), gives 0 (pos 0 ∷ []))
+    ∷ (toldIs NoCritical, gives 254 [])
+    ∷ (toldIs (CriticalRefused 3 7), refuses 3 (pos 7 ∷ []))
+    ∷ (toldItems (Count 2), gives 0 (pos 2 ∷ []))
+    ∷ (toldItems NoItems, gives 254 [])
+    ∷ (toldItems (ItemsRefused 3 7), refuses 3 (pos 7 ∷ []))
+    ∷ []
+
+told-answers : asks tellings ≡ answers tellings
+unfolding evaluate
+told-answers = agreed tellings tt
 
 -- "With a refusal, an absent field or no match, the part is empty, at the record's start"
 handings : handedOut (There 26 4) ∷ handedOut Absent ∷ handedOut (Refused bad-length 0) ∷ [] ≡ (26, 4) ∷ (0, 0) ∷ (0, 0) ∷ []
