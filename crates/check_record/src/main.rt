@@ -3,8 +3,9 @@ use layouts::Outcome;
 use libc::STDIN_FILENO;
 use libc::STDOUT_FILENO;
 ghost use mathlib.Core.Path.{_≡_};
-ghost use Prim.Native.Nat.{_≤_};
+ghost use Prim.Native.Nat.{_≤_, _<_};
 ghost use lib.ListN.{length};
+ghost use Rattle.terms.specs.Numbers.{largest-record};
 ghost use Rattle.check_record.specs.Input.{Reads, Filled};
 
 // What one read came to: so many bytes, the end of the input, or a failure.
@@ -37,8 +38,9 @@ fn read_some(buf: &mut [u8], at: usize) -> Read
     Read::More(n)
 }
 
-// Fills a buffer until it is full or the input ends.
+// Fills a buffer, which has room for more than the largest record, until it is full or the input ends.
 fn fill(buf: &mut [u8]) -> Input
+    requires { ⌜ largest-record < length (now buf) ⌝ }
     ensures { λ r. ⌜ Filled r (now (buf .exit)) ⌝ }
 {
     let mut n = 0;

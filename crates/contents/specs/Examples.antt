@@ -6,14 +6,14 @@ use mathlib.Core.List.{List, [], _∷_, _++_}
 use lib.ListN.{replicate}
 use lib.IntN.{ℤ, pos, negsuc}
 use Rattle.terms.specs.Numbers.{done, bad-integer, not-allowed, not-es, bad-character, bad-time, bad-identifier, bad-bits, bad-boolean, no-bytes}
-use Rattle.terms.specs.Answer.{pick, bind, need, every, enough, same, Told, refuses, told-none}
+use Rattle.terms.specs.Answer.{pick, bind, need, every, enough, same, Told, refuses, told-none, may-be-empty, never-empty}
 use Rattle.terms.specs.Digits.{digits, numberFrom}
 use Rattle.terms.specs.Laws.Table.{Row, asks, answers, sameNumber, sameNumbers, sameTold, agree, agreed}
 use Rattle.contents.specs.Content.{toldCheck, ask, passes}
 use Rattle.contents.specs.Integer.{sign, shortest, wellFormed, turned, value, eight, shrink, contentOf, any, isKind, isMillimetres}
 use Rattle.contents.specs.Text.{within, starts, follows, textFrom, ia5, printable, utf8, partsFrom, isIdentifier}
 use Rattle.contents.specs.Time.{leap, monthLength, possible, isDigit, partFrom, zulu, timeFrom, timeCheck, timeRule, written, isReal}
-use Rattle.contents.specs.Rules.{may-be-empty, needs-a-byte, integerRule, stringRule, octetsRule, bitsRule, identifierRule, booleanRule, also, onlyRule}
+use Rattle.contents.specs.Rules.{integerRule, stringRule, octetsRule, bitsRule, identifierRule, booleanRule, also, onlyRule}
 use Rattle.contents.specs.Leaves.{headerName, version, knownRule}
 
 evaluate : Unit {0}
@@ -168,16 +168,16 @@ ia5s =
 -- 14: no bytes where some are needed, before 9
 abbrev empties : List Row
 empties =
-    (toldCheck (stringRule ia5 needs-a-byte (0x41 ∷ [])), told-none done)
-    ∷ (toldCheck (stringRule ia5 needs-a-byte ([])), gets no-bytes)
-    ∷ (toldCheck (stringRule ia5 needs-a-byte (0x80 ∷ [])), gets bad-character)
+    (toldCheck (stringRule ia5 never-empty (0x41 ∷ [])), told-none done)
+    ∷ (toldCheck (stringRule ia5 never-empty ([])), gets no-bytes)
+    ∷ (toldCheck (stringRule ia5 never-empty (0x80 ∷ [])), gets bad-character)
     ∷ []
 
 -- 14 of an OCTET STRING
 abbrev octets : List Row
 octets =
-    (toldCheck (octetsRule needs-a-byte (0x00 ∷ [])), told-none done)
-    ∷ (toldCheck (octetsRule needs-a-byte ([])), gets no-bytes)
+    (toldCheck (octetsRule never-empty (0x00 ∷ [])), told-none done)
+    ∷ (toldCheck (octetsRule never-empty ([])), gets no-bytes)
     ∷ []
 
 -- a value that may have no bytes

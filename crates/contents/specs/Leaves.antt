@@ -8,11 +8,12 @@ use Prim.Native.Nat.{ℕ}
 use lib.ListN.{length, drop}
 use lib.IntN.{ℤ}
 use Rattle.terms.specs.Numbers.{not-allowed, not-es}
+use Rattle.terms.specs.Answer.{never-empty}
 use Rattle.contents.specs.Content.{Check, fine, Leaf}
 use Rattle.contents.specs.Integer.{stretch, unstretch, any}
 use Rattle.contents.specs.Text as Text
 use Rattle.contents.specs.Time.{timeRule}
-use Rattle.contents.specs.Rules.{needs-a-byte, integerRule, stringRule, octetsRule, bitsRule, identifierRule, booleanRule, onlyRule}
+use Rattle.contents.specs.Rules.{integerRule, stringRule, octetsRule, bitsRule, identifierRule, booleanRule, onlyRule}
 use Rattle.contents.specs.Laws.Leaves.{shown-back, shown-near, integer-there, bits-there}
 use Rattle.contents.specs.Laws.Integer.{stretch-back, stretch-near}
 
@@ -63,7 +64,7 @@ knownRule k c = onlyRule (k .leaf .rule) (k .content) (k .other) c
 
 -- "IA5String "ES"": 14, 9, then 8
 abbrev pub headerName : Known
-headerName = record { leaf = ia5String needs-a-byte; content = 0x45 ∷ 0x53 ∷ []; other = not-es }
+headerName = record { leaf = ia5String never-empty; content = 0x45 ∷ 0x53 ∷ []; other = not-es }
 
 -- "INTEGER 4": 6, then 7
 abbrev pub version : Known

@@ -5,17 +5,10 @@ use Prim.Native.Nat.{ℕ}
 use lib.Dec.{eqb}
 use lib.IntN.{ℤ}
 use Rattle.terms.specs.Numbers.{bad-integer, not-allowed, bad-character, bad-identifier, bad-bits, bad-boolean, no-bytes}
-use Rattle.terms.specs.Answer.{enough, same}
+use Rattle.terms.specs.Answer.{never-empty, enough, same}
 use Rattle.contents.specs.Content.{Check, fine, wrong, tag, ask}
 use Rattle.contents.specs.Integer.{wellFormed, value}
 use Rattle.contents.specs.Text.{Character, isText, isIdentifier}
-
--- a string whose bytes may be none, and one that needs a byte
-abbrev pub may-be-empty : Bool
-may-be-empty = true
-
-abbrev pub needs-a-byte : Bool
-needs-a-byte = false
 
 -- 6, then 7 by a test of the number
 unfoldable pub integerRule : (ℤ → Bool) → List ℕ → Check
@@ -31,7 +24,7 @@ octetsRule empty c = ask (enough empty c) no-bytes fine
 -- "first byte 00, then whole bytes"
 unfoldable pub bitsRule : List ℕ → Check
 bitsRule [] = wrong bad-bits tag
-bitsRule (a ∷ c) = ask (eqb a 0x00) bad-bits (ask (enough needs-a-byte c) no-bytes fine)
+bitsRule (a ∷ c) = ask (eqb a 0x00) bad-bits (ask (enough never-empty c) no-bytes fine)
 
 unfoldable pub identifierRule : List ℕ → Check
 identifierRule c = ask (isIdentifier c) bad-identifier fine

@@ -14,7 +14,7 @@ use Rattle.contents.specs.Content.{Check, fine, wrong, tag, ask, passes}
 unfoldable pub leap : ℕ → Bool
 leap y = eqb (y % 4) 0 && (not (eqb (y % 100) 0) || eqb (y % 400) 0)
 
-abbrev months : List ℕ
+abbrev pub months : List ℕ
 months = 31 ∷ 28 ∷ 31 ∷ 30 ∷ 31 ∷ 30 ∷ 31 ∷ 31 ∷ 30 ∷ 31 ∷ 30 ∷ 31 ∷ []
 
 unfoldable pub monthLength : ℕ → ℕ → ℕ

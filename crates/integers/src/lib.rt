@@ -12,11 +12,8 @@ ghost use Rattle.contents.specs.Scan.{checkedAt};
 ghost use Rattle.terms.specs.Digits.{number, digits as digitsOf};
 ghost use Rattle.integers.specs.Number.{digitOf, turnedIf, negative, numberOf, numberAt, allowedOf};
 use contents::Checked;
-
-// The paper's numbers of the refusals that an INTEGER gets.
-const BAD_INTEGER: u8 = 6;
-
-const NOT_ALLOWED: u8 = 7;
+use terms::BAD_INTEGER;
+use terms::NOT_ALLOWED;
 
 // The number of a content, or that it is none.
 pub enum Number {

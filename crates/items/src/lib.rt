@@ -6,21 +6,11 @@ ghost use Rattle.items.specs.Scan.{tagByte, Tells, longOf, lengthAt, ope
 ghost use Rattle.heads.specs.Scan.{headAt, outermostAt};
 ghost use Rattle.items.specs.Laws.Scan.{roomAt};
 use heads::Seen;
-
-// The encloser ends where an item must begin.
-const ITEM_MISSING: u8 = 1;
-
-// Another tag than the required one.
-const OTHER_TAG: u8 = 2;
-
-// A length that is missing, cut or of no form.
-const BAD_LENGTH: u8 = 3;
-
-// A content that passes its encloser's end.
-const PAST_END: u8 = 4;
-
-// An outermost record that is too large.
-const TOO_LARGE: u8 = 17;
+use terms::BAD_LENGTH;
+use terms::ITEM_MISSING;
+use terms::OTHER_TAG;
+use terms::PAST_END;
+use terms::TOO_LARGE;
 
 // The tags of the rules.
 pub enum Tag {

@@ -6,12 +6,12 @@ use mathlib.Core.List.{List, [], _∷_, _++_}
 use lib.ListN.{length, replicate, set, take, drop}
 use Rattle.terms.specs.declared.Field.the-variants.{ListKind, CertificateList, ListedDigest, SealCustomData, SealCustomItem, SealCustomCritical}
 use Rattle.terms.specs.Numbers.{done, other-tag, bad-boolean, left-over, too-many-items, too-large, bad-sheet, no-room}
-use Rattle.terms.specs.Answer.{good, pick, bind, need, have, every, enough, same, Told, told-one, refusal, answered}
+use Rattle.terms.specs.Answer.{good, pick, bind, need, have, every, enough, same, Told, told-one, refusal, answered, never-empty}
 use Rattle.terms.specs.Digits.{digits, numberFrom, leading}
 use Rattle.terms.specs.Laws.Table.{Row, asks, answers, sameNumber, sameNumbers, sameTold, agree, agreed}
 use Rattle.heads.specs.Head.{spell, octets, tlv, unspell, size, opening, cut, head, outermost}
 use Rattle.contents.specs.Content.{ask, placeOf, judge}
-use Rattle.contents.specs.Rules.{needs-a-byte, octetsRule, booleanRule}
+use Rattle.contents.specs.Rules.{octetsRule, booleanRule}
 use Rattle.contents.specs.Leaves.{octetString}
 use Rattle.layouts.specs.Layout.{Members, end, _▸_, leaf, node, list, one, maybe, flag, choose, each, option, either, critical, encode}
 use Rattle.layouts.specs.Reading.{readBy, begins, finish, many, readOption, readFlag, readEither, read}
@@ -25,8 +25,8 @@ evaluate = tt
 -- an octet string, by which a second one or a SEQUENCE of one follows, then a flag, then up to two octet strings in a list, optional
 abbrev small : Members
 small =
-    choose ListKind (octetString needs-a-byte) (λ c. same c (0x01 ∷ [])) CertificateList (leaf (octetString needs-a-byte)) (node sequence (one ListedDigest (leaf (octetString needs-a-byte)) ▸ end))
-    ▸ flag SealCustomCritical ▸ maybe SealCustomData (list sequence true 2 SealCustomItem (leaf (octetString needs-a-byte))) ▸ end
+    choose ListKind (octetString never-empty) (λ c. same c (0x01 ∷ [])) CertificateList (leaf (octetString never-empty)) (node sequence (one ListedDigest (leaf (octetString never-empty)) ▸ end))
+    ▸ flag SealCustomCritical ▸ maybe SealCustomData (list sequence true 2 SealCustomItem (leaf (octetString never-empty))) ▸ end
 
 abbrev accepted : List ℕ → Told
 accepted w = answered (λ v. length (recordOf small v)) (accept 100 small w)

@@ -6,13 +6,10 @@ use mathlib.Core.Option.{Option, none, some}
 use mathlib.Core.List.{List, [], _∷_}
 use lib.ListN.{length, getD}
 use Rattle.terms.specs.declared.Field.{Field}
-use Rattle.terms.specs.Names.{code}
+use Rattle.terms.specs.Names.{code, names-count}
 use Rattle.layouts.specs.Fields.{Entry, isField, first}
 
 -- the numbers of the table
-abbrev pub names-count : ℕ
-names-count = 43
-
 abbrev numbers-each : ℕ
 numbers-each = 4
 

@@ -23,11 +23,11 @@ use Rattle.items.specs.declared.Tag.{Tag}
 use Rattle.items.specs.declared.Tag.the-variants as tag
 use Rattle.items.specs.Scan.{tagByte}
 use Rattle.layouts.specs.Scan.{judgeAt, ruleAt, beginsAt, closeAt}
-use Rattle.tables.specs.declared.Content.{Content}
-use Rattle.tables.specs.declared.Content.the-variants as content
-use Rattle.tables.specs.declared.Form.{Form}
-use Rattle.tables.specs.Table.{leafOf, knownOf, says}
-use Rattle.tables.specs.declared.Word.{Word}
+use Rattle.primitives.specs.declared.Content.{Content}
+use Rattle.primitives.specs.declared.Content.the-variants as content
+use Rattle.primitives.specs.declared.Primitive.{Primitive}
+use Rattle.primitives.specs.declared.Word.{Word}
+use Rattle.primitives.specs.Primitive.{leafOf, knownOf, says}
 use Rattle.leaves.specs.Leaf.{judgedAt, pastOf}
 
 -- ---- a head, then a rule
@@ -86,8 +86,8 @@ close-end p e h = pick-ge p e _ _ h
 -- ---- by the case of an enum
 
 module _ (s : List ℕ) (p a z : ℕ) (y : Checked) where
-  pub form-rule : (f g : Form) → f ≡ g → y ≡ checkedAt (leafOf g .rule) s p a z → y ≡ checkedAt (leafOf f .rule) s p a z
-  form-rule f g i h = rw i h
+  pub primitive-rule : (f g : Primitive) → f ≡ g → y ≡ checkedAt (leafOf g .rule) s p a z → y ≡ checkedAt (leafOf f .rule) s p a z
+  primitive-rule f g i h = rw i h
 
   pub word-rule : (w v : Word) → w ≡ v → y ≡ checkedAt (knownRule (knownOf v)) s p a z → y ≡ checkedAt (knownRule (knownOf w)) s p a z
   word-rule w v i h = rw i h

@@ -1,44 +1,42 @@
-// Primitive items by their form: the head, then the content's rule; and the small questions that a reader of members asks.
+// Primitive items by name: the head, then the content's rule; and the small questions that a reader of members asks.
 use contents::Checked;
 use heads::Seen;
 use heads::Step;
 use integers::Allowed;
 use items::Tag;
-use tables::Content;
-use tables::Form;
-use tables::Word;
-use texts::MAY_BE_EMPTY;
-use texts::NEEDS_A_BYTE;
+use primitives::Content;
+use primitives::Primitive;
+use primitives::Word;
+use terms::LEFT_OVER;
+use terms::MAY_BE_EMPTY;
+use terms::NEVER_EMPTY;
 ghost use mathlib.Core.Path.{_≡_};
 ghost use lib.Seq.{slice};
 ghost use Rattle.contents.specs.Leaves.{knownRule};
 ghost use Rattle.contents.specs.Scan.{checkedAt};
 ghost use Rattle.items.specs.Scan.{tagByte};
 ghost use Rattle.layouts.specs.Scan.{ruleAt, leafAt, beginsAt, closeAt};
-ghost use Rattle.tables.specs.Table.{leafOf, knownOf, says};
+ghost use Rattle.primitives.specs.Primitive.{leafOf, knownOf, says};
 ghost use Rattle.leaves.specs.Leaf.{judgedAt, pastOf};
 
-// Bytes left after the last item.
-const LEFT_OVER: u8 = 5;
-
-// A content by the rule of its form.
-fn rule(s: &[u8], f: Form, at: usize, a: usize, z: usize) -> Checked
-    ensures { λ r. ⌜ r ≡ checkedAt (leafOf f .rule) (now (s .entry)) at a z ⌝ }
+// A content by the rule of its primitive item.
+fn rule(s: &[u8], p: Primitive, at: usize, a: usize, z: usize) -> Checked
+    ensures { λ r. ⌜ r ≡ checkedAt (leafOf p .rule) (now (s .entry)) at a z ⌝ }
 {
-    match f {
-        Form::Octets => texts::octets(s, at, a, z, NEEDS_A_BYTE),
-        Form::AnyOctets => texts::octets(s, at, a, z, MAY_BE_EMPTY),
-        Form::Bits => texts::bits(s, at, a, z),
-        Form::Ia5 => texts::ia5(s, at, a, z, NEEDS_A_BYTE),
-        Form::AnyIa5 => texts::ia5(s, at, a, z, MAY_BE_EMPTY),
-        Form::AnyPrintable => texts::printable(s, at, a, z, MAY_BE_EMPTY),
-        Form::AnyUtf8 => texts::utf8(s, at, a, z, MAY_BE_EMPTY),
-        Form::Identifier => texts::identifier(s, at, a, z),
-        Form::Time => times::time(s, at, a, z),
-        Form::Integer => integers::integer(s, at, a, z, Allowed::Any),
-        Form::ListKind => integers::integer(s, at, a, z, Allowed::Kind),
-        Form::Millimetres => integers::integer(s, at, a, z, Allowed::Millimetres),
-        Form::Critical => texts::boolean(s, at, a, z),
+    match p {
+        Primitive::Octets => texts::octets(s, at, a, z, NEVER_EMPTY),
+        Primitive::AnyOctets => texts::octets(s, at, a, z, MAY_BE_EMPTY),
+        Primitive::Bits => texts::bits(s, at, a, z),
+        Primitive::Ia5 => texts::ia5(s, at, a, z, NEVER_EMPTY),
+        Primitive::AnyIa5 => texts::ia5(s, at, a, z, MAY_BE_EMPTY),
+        Primitive::AnyPrintable => texts::printable(s, at, a, z, MAY_BE_EMPTY),
+        Primitive::AnyUtf8 => texts::utf8(s, at, a, z, MAY_BE_EMPTY),
+        Primitive::Identifier => texts::identifier(s, at, a, z),
+        Primitive::Time => times::time(s, at, a, z),
+        Primitive::Integer => integers::integer(s, at, a, z, Allowed::Any),
+        Primitive::ListKind => integers::integer(s, at, a, z, Allowed::Kind),
+        Primitive::Millimetres => integers::integer(s, at, a, z, Allowed::Millimetres),
+        Primitive::Critical => texts::boolean(s, at, a, z),
     }
 }
 
@@ -73,14 +71,14 @@ fn judged(c: Checked, a: usize, z: usize) -> Seen
 }
 
 // A primitive item: where its content lies, or the refusal of its head or its content.
-pub fn leaf(s: &[u8], f: Form, at: usize, end: usize) -> Seen
-    ensures { λ r. ⌜ r ≡ leafAt (leafOf f) (now (s .entry)) at end ⌝ }
+pub fn leaf(s: &[u8], p: Primitive, at: usize, end: usize) -> Seen
+    ensures { λ r. ⌜ r ≡ leafAt (leafOf p) (now (s .entry)) at end ⌝ }
 {
-    let h = items::head(s, tables::tag_of_form(f), at, end);
+    let h = items::head(s, primitives::tag_of(p), at, end);
     let Seen::Item(a, z) = h else {
         return h;
     };
-    judged(rule(s, f, at, a, z), a, z)
+    judged(rule(s, p, at, a, z), a, z)
 }
 
 // A member whose content is known.

@@ -8,10 +8,11 @@ use lib.ListN.{length, getD, drop, List·getD-eq-default}
 use lib.Dec.{eqb, ltb, ltb→lt}
 use borrow.Author.Tests.{ne-eqb, lt-ltb, le-ltb}
 use Rattle.terms.specs.declared.Field.{Field}
-use Rattle.terms.specs.Names.{code}
-use Rattle.terms.specs.Laws.Names.{nameOf, code-name}
+use Rattle.terms.specs.Names.{code, names-count, nameOf}
+use Rattle.terms.specs.Laws.Names.{code-name}
 use Rattle.terms.specs.Answer.{pick}
-use Rattle.layouts.specs.Places.{names-count, under, slot}
+use Rattle.terms.specs.Laws.Answer.{never}
+use Rattle.layouts.specs.Places.{under, slot}
 use Rattle.layouts.specs.Marks.{free, filled, noted}
 
 -- a name is numbered by its place among the names
@@ -42,7 +43,7 @@ free-in d n b j e g h = go (ltb (n + 3) (length d)) _ refl (sym e ∙ g)
   where
     go : (x y : Bool) → ltb (n + 3) (length d) ≡ x → x && y ≡ true → n + j < length d
     go true y q k = let l : n + 3 < length d = ltb→lt (n + 3) (length d) (rw q tt) in omega arith
-    go false y q k = let z : _≡_ {A = ℕ} 0 1 = cc in let w : ⊥ = omega arith in absurd w
+    go false y q k = never (cc)
 
 pub free-no : (d : List ℕ) (n : ℕ) → length d ≤ n + 3 → false ≡ free d n
 unfolding free

@@ -1,20 +1,21 @@
 // The table of places: under each name whether the field is there, where it starts, how many bytes it has, and of a list how many items.
 use terms::Field;
+use terms::NAMES;
 ghost use mathlib.Core.Path.{_≡_};
 ghost use Prim.Native.Nat.{_+_, _-_, _<_};
 ghost use mathlib.Core.Bool.{not};
 ghost use mathlib.Core.List.{[], _∷_};
 ghost use lib.ListN.{getD, drop, length as size};
 ghost use lib.Dec.{eqb};
-ghost use Rattle.layouts.specs.Places.{names-count, table-size, slot, under as numbersUnder};
+ghost use Rattle.layouts.specs.Places.{table-size, slot, under as numbersUnder};
 ghost use Rattle.layouts.specs.Marks.{free, filled, noted};
-ghost use Rattle.terms.specs.Laws.Names.{nameOf};
+ghost use Rattle.terms.specs.Names.{names-count, nameOf};
 
 // The numbers under a name.
 const NUMBERS_EACH: usize = 4;
 
 // The numbers of a table.
-pub const TABLE_SIZE: usize = 172;
+pub const TABLE_SIZE: usize = NUMBERS_EACH * NAMES;
 
 // What stands under a name.
 pub struct Place {

@@ -5,12 +5,11 @@ use mathlib.Core.Bool.{true}
 use mathlib.Core.List.{List, [], _∷_}
 use lib.IntN.{negsuc}
 use Rattle.terms.specs.Numbers.{done}
-use Rattle.terms.specs.Answer.{Res, good, fault, Got, Told, gives, refuses, told-none, told-one, refusal, answered}
+use Rattle.terms.specs.Answer.{Res, good, fault, Got, Told, gives, refuses, told-none, told-one, refusal, answered, may-be-empty}
 use Rattle.terms.specs.Laws.Table.{Row, asks, answers, agreed}
 use Rattle.heads.specs.Head.{size}
 use Rattle.contents.specs.Content.{Leaf, toldCheck}
 use Rattle.contents.specs.Integer.{value, any}
-use Rattle.contents.specs.Rules.{may-be-empty}
 use Rattle.contents.specs.Leaves.{integer, identifier, utf8String, generalizedTime}
 use Rattle.layouts.specs.Layout.{leaf}
 use Rattle.layouts.specs.Reading.{read}

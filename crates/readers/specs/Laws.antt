@@ -1,11 +1,11 @@
 -- A record that is the whole input: what is told of it, and where its fields stand. Assumes nothing.
 use mathlib.Core.Path.{_≡_, refl, sym, ap, _∙_}
 use Prim.Native.Nat.{ℕ}
-use native.Mathlib.Omega.{arith}
 use mathlib.Core.List.{List, []}
 use lib.ListN.{length, replicate}
 use Rattle.terms.specs.Numbers.{largest-record}
 use Rattle.terms.specs.Answer.{Res, good, fault, answered}
+use Rattle.terms.specs.Laws.Answer.{never}
 use Rattle.heads.specs.Scan.{outermostAt}
 use Rattle.heads.specs.declared.Seen.{Seen}
 use Rattle.heads.specs.declared.Seen.the-variants.{Item as At, Refused as Bad}
@@ -42,7 +42,7 @@ unfolding fieldsIn notes
 no-field r s n q h = go (accept largest-record r s) (sym (whole-accept largest-record r s) ∙ h)
   where
     go : (x : Res (Values r)) → whole (length s) x ≡ Refused n q → Placed (fieldsOf r x) (replicate table-size 0)
-    go (good v) g = let y : _≡_ {A = ℕ} 0 1 = cc in let f : ⊥ = omega arith in absurd f
+    go (good v) g = never (cc)
     go (fault m p) g = placed []
 
 -- where it is accepted the table has its fields
@@ -53,7 +53,7 @@ each-field r s a z m h o = go (accept largest-record r s) refl (sym (whole-accep
   where
     go : (x : Res (Values r)) → accept largest-record r s ≡ x → whole (length s) x ≡ Next m → Placed (fieldsOf r x) (marksAll r 0 s a z (replicate table-size 0))
     go (good v) q g = rw (accept-marks largest-record r s v q a z o (replicate table-size 0)) (placed (fields r v))
-    go (fault n p) q g = let y : _≡_ {A = ℕ} 0 1 = cc in let f : ⊥ = omega arith in absurd f
+    go (fault n p) q g = never (cc)
 
 module _ (r : Members) (s : List ℕ) (x : Step) (d : List ℕ) (w : (x, d) ≡ recordWalk r s 0 (length s) (replicate table-size 0)) where
   h : x ≡ recordScan largest-record r s 0 (length s)
@@ -85,7 +85,7 @@ module _ (r : Members) (s : List ℕ) (x : Step) (d : List ℕ) (w : (x, d) ≡ 
         go : (k : Seen) → outermostAt largest-record sequence s 0 (length s) ≡ k → Next q ≡ (thenSeen k λ a z. scans r s a z)
             → d ≡ (afterSeen k (replicate table-size 0) λ a z. marksAll r 0 s a z (replicate table-size 0)) → Placed (fieldsIn r s) d
         go (At a e) i j u = rw u (each-field r s a e m (rw (← h, b) (sym c ∙ o)) i)
-        go (Bad n p) i j u = let y : _≡_ {A = ℕ} 0 1 = cc in let f : ⊥ = omega arith in absurd f
+        go (Bad n p) i j u = never (cc)
 
 module _ (x : Step) where
   pub outcome-next : (n : ℕ) → x ≡ Next n → Length n ≡ outcomeOf x

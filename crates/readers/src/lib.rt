@@ -2,14 +2,14 @@
 use heads::Step;
 use layouts::Outcome;
 use places::TABLE_SIZE;
-use tables::Shape;
+use structures::Row;
 ghost use mathlib.Core.Path.{_≡_};
 ghost use lib.ListN.{replicate};
 ghost use Rattle.layouts.specs.Places.{table-size, Placed};
 ghost use Rattle.layouts.specs.Whole.{toldOutcome};
 ghost use Rattle.records.specs.Record.{seal, signature};
 ghost use Rattle.records.specs.Handing.{recordAnswer, fieldsIn};
-ghost use Rattle.tables.specs.Table.{inner, layoutOf};
+ghost use Rattle.structures.specs.Structure.{rowOf};
 ghost use Rattle.readers.specs.Outcome.{outcomeOf};
 
 // What reading a record comes to; and, where it was accepted, the table of its places.
@@ -39,9 +39,9 @@ fn refused(x: Step) -> Reading
 }
 
 // A record that is the whole input: 5 if bytes are left over.
-fn whole(s: &[u8], x: Shape) -> Reading
-    ensures { λ r. ⌜ toldOutcome (r .outcome) ≡ recordAnswer (inner (layoutOf x)) (now (s .entry)) ⌝ }
-    ensures { λ r. ⌜ Placed (fieldsIn (inner (layoutOf x)) (now (s .entry))) (r .places) ⌝ }
+fn whole(s: &[u8], x: Row) -> Reading
+    ensures { λ r. ⌜ toldOutcome (r .outcome) ≡ recordAnswer (rowOf x) (now (s .entry)) ⌝ }
+    ensures { λ r. ⌜ Placed (fieldsIn (rowOf x) (now (s .entry))) (r .places) ⌝ }
 {
     let mut places = [0usize; TABLE_SIZE];
     let r = walks::record(s, x, 0, s.len(), &mut places);
@@ -63,7 +63,7 @@ pub fn read_seal(s: &[u8]) -> Reading
     ensures { λ r. ⌜ toldOutcome (r .outcome) ≡ recordAnswer seal (now (s .entry)) ⌝ }
     ensures { λ r. ⌜ Placed (fieldsIn seal (now (s .entry))) (r .places) ⌝ }
 {
-    whole(s, Shape::Seal)
+    whole(s, Row::Seal)
 }
 
 // A signature record: its length, or the number and place of the first refusal; and where its fields stand.
@@ -71,5 +71,5 @@ pub fn read_signature(s: &[u8]) -> Reading
     ensures { λ r. ⌜ toldOutcome (r .outcome) ≡ recordAnswer signature (now (s .entry)) ⌝ }
     ensures { λ r. ⌜ Placed (fieldsIn signature (now (s .entry))) (r .places) ⌝ }
 {
-    whole(s, Shape::Signature)
+    whole(s, Row::Signature)
 }

@@ -1,6 +1,6 @@
 // Where a field or a matching entry lies in the lent record, start and length; or why there is none.
 pub enum Part {
-    There(usize, usize),
+    There { start: usize, length: usize },
     Absent,
     Refused(u8, usize),
 }

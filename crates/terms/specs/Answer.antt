@@ -46,7 +46,14 @@ unfoldable pub every : {A : Type 0} → (A → Bool) → List A → Bool
 every p [] = true
 every p (x ∷ xs) = p x && every p xs
 
--- some members where some are needed; `true`: there may be none
+-- whether a list or a string may have no member
+abbrev pub may-be-empty : Bool
+may-be-empty = true
+
+abbrev pub never-empty : Bool
+never-empty = false
+
+-- some members where some are needed
 unfoldable pub enough : {A : Type 0} → Bool → List A → Bool
 enough true xs = true
 enough false [] = false

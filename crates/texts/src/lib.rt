@@ -1,5 +1,12 @@
 // The rules of strings, bits, identifiers and the BOOLEAN: an item's content is the window from `a` to `z` of the slice, its tag stands at `at`.
 use contents::Checked;
+use terms::BAD_BITS;
+use terms::BAD_BOOLEAN;
+use terms::BAD_CHARACTER;
+use terms::BAD_IDENTIFIER;
+use terms::NEVER_EMPTY;
+use terms::NO_BYTES;
+use terms::NOT_ES;
 ghost use mathlib.Core.Path.{_≡_};
 ghost use mathlib.Core.Bool.{true, _&&_};
 ghost use mathlib.Core.List.{List};
@@ -12,24 +19,6 @@ ghost use Rattle.contents.specs.Leaves.{headerName, knownRule};
 ghost use Rattle.contents.specs.Scan.{checked, checkedAt};
 ghost use Rattle.texts.specs.declared.Rest.the-variants.{Complete, Due};
 ghost use Rattle.texts.specs.Text.{charactersOf, Steps};
-
-// The paper's numbers of the refusals that these rules give.
-const NOT_ES: u8 = 8;
-
-const BAD_CHARACTER: u8 = 9;
-
-const BAD_IDENTIFIER: u8 = 11;
-
-const BAD_BITS: u8 = 12;
-
-const BAD_BOOLEAN: u8 = 13;
-
-const NO_BYTES: u8 = 14;
-
-// A string whose bytes may be none, and one that needs a byte.
-pub const MAY_BE_EMPTY: bool = true;
-
-pub const NEEDS_A_BYTE: bool = false;
 
 // The alphabets of strings.
 enum Alphabet {
@@ -284,7 +273,7 @@ pub fn utf8(s: &[u8], at: usize, a: usize, z: usize, empty: bool) -> Checked
 pub fn header_name(s: &[u8], at: usize, a: usize, z: usize) -> Checked
     ensures { λ r. ⌜ r ≡ checkedAt (knownRule headerName) (now (s .entry)) at a z ⌝ }
 {
-    let text = ia5(s, at, a, z, NEEDS_A_BYTE);
+    let text = ia5(s, at, a, z, NEVER_EMPTY);
     let Checked::Fine = text else {
         return text;
     };

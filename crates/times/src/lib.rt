@@ -7,13 +7,9 @@ ghost use lib.Seq.{slice};
 ghost use lib.Dec.{eqb};
 ghost use Rattle.contents.specs.Time.{leap, monthLength, year-digits, timeFrom, timeRule, moment as instant, momentOf, written, isReal};
 ghost use Rattle.contents.specs.Scan.{checkedAt};
-ghost use Rattle.times.specs.Laws.Parts.{firstDigit, inside, AtMost, partAt};
-ghost use Rattle.times.specs.Laws.Whole.{told, closing, dateIn, clockIn};
-ghost use Rattle.times.specs.Laws.Real.{there};
+ghost use Rattle.times.specs.Time.{firstDigit, inside, AtMost, partAt, told, there, closing, dateIn, clockIn};
 use contents::Checked;
-
-// The number of every refusal of a time.
-const BAD_TIME: u8 = 10;
+use terms::BAD_TIME;
 
 // The last month of a year, the last hour of a day, the last minute of an hour and the last second of a minute.
 const LAST_MONTH: u64 = 12;
@@ -73,18 +69,13 @@ fn is_long_february(year: u64, month: u64) -> bool
     is_leap(year)
 }
 
-// How many days a month has. Number 0 is taken as January; past December there are none.
-pub fn month_length(year: u64, month: u64) -> u64
+// How many days a month has.
+fn month_length(year: u64, month: u64) -> u64
+    requires { ⌜ (1 ≤ month) × (month ≤ 12) ⌝ }
     ensures { λ r. ⌜ r ≡ monthLength year month ⌝ }
 {
     if is_long_february(year, month) {
         return 29;
-    }
-    if month == 0 {
-        return 31;
-    }
-    if LAST_MONTH < month {
-        return 0;
     }
     let i = (month - 1) as usize;
     MONTHS[i]

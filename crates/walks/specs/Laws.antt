@@ -3,6 +3,7 @@ use mathlib.Core.Path.{_≡_, refl, sym, ap, _∙_}
 use Prim.Native.Nat.{ℕ, suc, zero, _+_, _-_, _≤_, _<_}
 use native.Mathlib.Omega.{arith}
 use native.Mathlib.Numerals.{add-one}
+use native.Mathlib.Nat.{sub-zero}
 use mathlib.Core.Bool.{Bool, true, false, _||_}
 use mathlib.Core.List.{List, [], _∷_}
 use lib.ListN.{length, getD, take, drop, length-append, length-drop}
@@ -12,6 +13,7 @@ use borrow.Author.Tests.{lt-ltb, le-ltb}
 use Rattle.terms.specs.declared.Field.{Field}
 use Rattle.terms.specs.Numbers.{no-item, too-many-items, largest-record}
 use Rattle.terms.specs.Answer.{Res, good, fault, pick}
+use Rattle.terms.specs.Laws.Answer.{never}
 use Rattle.heads.specs.Head.{Cut, head, tlv, before}
 use Rattle.heads.specs.Laws.Head.{head-back, length-tlv}
 use Rattle.heads.specs.Scan.{seen, headAt, outermostAt}
@@ -28,16 +30,19 @@ use Rattle.layouts.specs.Layout.{Item, leaf, node, list, wrap, Members, end, _�
 use Rattle.layouts.specs.Scan.{thenSeen, thenStep, thenJudge, judgeAt, ruleAt, leafAt, beginsAt, closeAt, scanMany, scan, recordScan}
 use Rattle.layouts.specs.Whole.{sequence}
 use Rattle.leaves.specs.Leaf.{pastOf}
-use Rattle.tables.specs.declared.Content.{Content}
-use Rattle.tables.specs.declared.Form.{Form}
-use Rattle.tables.specs.declared.Form.the-variants as form
-use Rattle.tables.specs.declared.Word.{Word}
-use Rattle.tables.specs.declared.Shape.{Shape}
-use Rattle.tables.specs.declared.Kind.{Kind}
-use Rattle.tables.specs.declared.Kind.the-variants as kind
-use Rattle.tables.specs.declared.Member.{Member}
-use Rattle.tables.specs.declared.Member.the-variants as member
-use Rattle.tables.specs.Table.{leafOf, knownOf, inner, layoutOf, itemOf, membersOf, says}
+use Rattle.primitives.specs.declared.Content.{Content}
+use Rattle.primitives.specs.declared.Primitive.{Primitive}
+use Rattle.primitives.specs.declared.Primitive.the-variants as primitive
+use Rattle.primitives.specs.declared.Word.{Word}
+use Rattle.primitives.specs.Primitive.{leafOf, knownOf, says}
+use Rattle.structures.specs.declared.Row.{Row}
+use Rattle.structures.specs.declared.Structure.{Structure}
+use Rattle.structures.specs.declared.Build.{Build}
+use Rattle.structures.specs.declared.Build.the-variants as build
+use Rattle.structures.specs.Structure.{rowOf, layoutOf, itemOf}
+use Rattle.rows.specs.declared.Member.{Member}
+use Rattle.rows.specs.declared.Member.the-variants as member
+use Rattle.rows.specs.Row.{membersOf}
 use Rattle.layouts.specs.declared.Tally.{Tally}
 use Rattle.layouts.specs.declared.Tally.the-variants.{Items, Refused as Uncounted}
 use Rattle.layouts.specs.Marks.{noted, afterSeen, afterStep, afterTally, thenTally, tally, manyMarks, leafMarks, marks, marksAll, recordMarks}
@@ -91,11 +96,11 @@ rule-taken t rule s p e a z h = go (headAt t s p e) refl h
 
     judged : (k : Check) (a′ z′ : ℕ) → headAt t s p e ≡ At a′ z′ → rule (slice a′ z′ s) ≡ k → judgeAt k p a′ z′ ≡ At a z → (headAt t s p e ≡ At a z) × (rule (slice a z s) ≡ fine)
     judged fine a′ z′ o q g = let b = same-item a z a′ z′ g in (rw (← b .0, ← b .1) o, rw (← b .0, ← b .1) q)
-    judged (wrong n x) a′ z′ o q g = let y : _≡_ {A = ℕ} 0 1 = cc in let f : ⊥ = omega arith in absurd f
+    judged (wrong n x) a′ z′ o q g = never (cc)
 
     go : (x : Seen) → headAt t s p e ≡ x → (thenJudge x λ a z. judgeAt (rule (slice a z s)) p a z) ≡ At a z → (headAt t s p e ≡ At a z) × (rule (slice a z s) ≡ fine)
     go (At a′ z′) o g = judged (rule (slice a′ z′ s)) a′ z′ o refl g
-    go (Bad n q) o g = let y : _≡_ {A = ℕ} 0 1 = cc in let f : ⊥ = omega arith in absurd f
+    go (Bad n q) o g = never (cc)
 
 take-short : (n : ℕ) (l : List ℕ) → length (take n l) ≤ length l
 take-short zero l = omega arith
@@ -117,7 +122,7 @@ head-inside t s p e a z h = go (head t (slice p e s) p) refl h
         let q : c .start ≡ a = cc in
         let r = b .1 in
         omega arith
-    go (fault n q) o g = let y : _≡_ {A = ℕ} 0 1 = cc in let f : ⊥ = omega arith in absurd f
+    go (fault n q) o g = never (cc)
 
 -- a content that was taken starts in the slice
 pub rule-inside : (t : ℕ) (rule : List ℕ → Check) (s : List ℕ) (p e a z : ℕ) (h : Seen) → h ≡ ruleAt t rule s p e → h ≡ At a z → a ≤ length s
@@ -176,6 +181,11 @@ module _ (t : ℕ) (o : Bool) (n : ℕ) (g : Field) (i : Item) where
   unfolding marks listHeadAt
   list-marks f k s p e d = after-passed (headAt t s p e) (λ a z. o || ltb a z) no-item p d _
 
+  -- the items of a list from its first on
+  whole-list : (s : List ℕ) (p e : ℕ) (d : List ℕ) → listWalk i g n 0 s p e d ≡ (tally (λ q. scan i s q e) n 0 p e, manyMarks (λ q. scan i s q e) (λ j q x. marks i g j s q e x) n 0 p e d)
+  unfolding listWalk
+  whole-list s p e d = rw (sub-zero n)
+
 -- two answers at once, and each of them
 both : {A : Type 0} {x y : A} {d d′ : List ℕ} → x ≡ y → d ≡ d′ → _≡_ {A = A × List ℕ} (x, d) (y, d′)
 both e f = rw (e, f) refl
@@ -187,7 +197,7 @@ pub tables : {A : Type 0} {x y : A × List ℕ} → x ≡ y → x .1 ≡ y .1
 tables {A} h = ap (λ (z : A × List ℕ). z .1) h
 
 module _ (f : Field) (n : ℕ) (s : List ℕ) (p e : ℕ) (d : List ℕ) where
-  module _ (l : Form) (h : Seen) (j : h ≡ leafAt (leafOf l) s p e) where
+  module _ (l : Primitive) (h : Seen) (j : h ≡ leafAt (leafOf l) s p e) where
     pub leaf-refused : (m q : ℕ) → h ≡ Bad m q → (h, d) ≡ leafWalk (leafOf l) f n s p e d
     unfolding leafWalk leafMarks
     leaf-refused m q b = both j (rw (← j, b))
@@ -201,28 +211,25 @@ module _ (f : Field) (n : ℕ) (s : List ℕ) (p e : ℕ) (d : List ℕ) where
   unfolding leafWalk itemWalk scan marks
   leaf-past l h y d′ g o = both (o ∙ passed h ∙ ap (λ (x : Seen). thenSeen x λ a z. Next z) (answers g)) (tables g)
 
-  module _ (x : Shape) (k : Kind) (l : layoutOf x ≡ itemOf x k) where
+  module _ (x : Structure) (k : Build) (l : layoutOf x ≡ itemOf k) where
     abbrev Reads : Step → List ℕ → Type 0
     Reads y d′ = (y, d′) ≡ itemWalk (layoutOf x) f n s p e d
 
-    pub item-leaf : (c : Form) (h : Seen) (y : Step) (d′ : List ℕ) → k ≡ kind.Leaf c → (h, d′) ≡ leafWalk (leafOf c) f n s p e d → y ≡ pastOf h → Reads y d′
+    pub item-leaf : (c : Primitive) (h : Seen) (y : Step) (d′ : List ℕ) → k ≡ build.Leaf c → (h, d′) ≡ leafWalk (leafOf c) f n s p e d → y ≡ pastOf h → Reads y d′
     unfolding itemWalk
     item-leaf c h y d′ i g o = rw (l, i) (leaf-past (leafOf c) h y d′ g o)
 
     module _ (t : Tag) (h : Seen) (j : h ≡ headAt (tagByte t) s p e) where
-      module _ (i : k ≡ kind.Node t) where
-        pub node-refused : (m q : ℕ) (y : Step) → h ≡ Bad m q → y ≡ pastOf h → Reads y d
+      module _ (m : Row) (i : k ≡ build.Node t m) where
+        pub node-refused : (c q : ℕ) (y : Step) → h ≡ Bad c q → y ≡ pastOf h → Reads y d
         unfolding itemWalk scan marks
-        node-refused m q y b g = both (rw (l, i, ← j, b) (g ∙ ap pastOf b)) (rw (l, i, ← j, b))
+        node-refused c q y b g = both (rw (l, i, ← j, b) (g ∙ ap pastOf b)) (rw (l, i, ← j, b))
 
-        pub node-members : (a z : ℕ) (y : Step) (d₁ d₂ : List ℕ) → h ≡ At a z → d₁ ≡ noted f n p z 0 d → (y, d₂) ≡ rowWalk (inner (layoutOf x)) n s a z d₁ → Reads y d₂
+        pub node-members : (a z : ℕ) (y : Step) (d₁ d₂ : List ℕ) → h ≡ At a z → d₁ ≡ noted f n p z 0 d → (y, d₂) ≡ rowWalk (rowOf m) n s a z d₁ → Reads y d₂
         unfolding itemWalk rowWalk scan marks
-        node-members a z y d₁ d₂ b o g =
-            let q : layoutOf x ≡ itemOf x (kind.Node t) = l ∙ ap (itemOf x) i in
-            both (answers g ∙ sym (ap (λ (m : Item). scan m s p e) q ∙ rw (← j, b)))
-            (tables g ∙ ap (marksAll (inner (layoutOf x)) n s a z) o ∙ sym (ap (λ (m : Item). marks m f n s p e d) q ∙ rw (← j, b)))
+        node-members a z y d₁ d₂ b o g = both (rw (l, i, ← j, b) (answers g)) (rw (l, i, ← j, b) (tables g ∙ ap (marksAll (rowOf m) n s a z) o))
 
-      module _ (u : Shape) (i : k ≡ kind.Wrap t u) where
+      module _ (u : Structure) (i : k ≡ build.Wrap t u) where
         pub wrap-refused : (m q : ℕ) (y : Step) → h ≡ Bad m q → y ≡ pastOf h → Reads y d
         unfolding itemWalk scan marks
         wrap-refused m q y b g = both (rw (l, i, ← j, b) (g ∙ ap pastOf b)) (rw (l, i, ← j, b))
@@ -236,34 +243,38 @@ module _ (f : Field) (n : ℕ) (s : List ℕ) (p e : ℕ) (d : List ℕ) where
           unfolding itemWalk scan marks
           wrap-close q y o g = both (rw (l, i, ← j, b, ← answers w, o) g) (rw (l, i, ← j, b) (tables w))
 
-    module _ (t : Tag) (o : Bool) (g : Field) (u : Shape) (i : k ≡ kind.List t o g u) (h : Seen) (j : h ≡ listHeadAt (tagByte t) o s p e) where
+    module _ (t : Tag) (o : Bool) (c : ℕ) (g : Field) (u : Structure) (i : k ≡ build.List t o c g u) (h : Seen) (j : h ≡ listHeadAt (tagByte t) o s p e) where
       pub list-refused : (m q : ℕ) (y : Step) → h ≡ Bad m q → y ≡ pastOf h → Reads y d
       unfolding itemWalk
       list-refused m q y b r =
-          rw (l, i) (both (rw (list-scan (tagByte t) o 64 g (layoutOf u) s p e, ← j, b) (r ∙ ap pastOf b)) (rw (list-marks (tagByte t) o 64 g (layoutOf u) f n s p e d, ← j, b)))
+          rw (l, i) (both (rw (list-scan (tagByte t) o c g (layoutOf u) s p e, ← j, b) (r ∙ ap pastOf b)) (rw (list-marks (tagByte t) o c g (layoutOf u) f n s p e d, ← j, b)))
 
-      module _ (a z : ℕ) (b : h ≡ At a z) (c : Tally) (d₁ : List ℕ) (r : (c, d₁) ≡ listWalk (layoutOf u) g 0 s a z d) where
-        pub list-bad : (n q : ℕ) → c ≡ Uncounted n q → Reads (Refused n q) d₁
+      module _ (a z : ℕ) (b : h ≡ At a z) (v : Tally) (d₁ : List ℕ) (r : (v, d₁) ≡ listWalk (layoutOf u) g c 0 s a z d) where
+        pub list-bad : (n q : ℕ) → v ≡ Uncounted n q → Reads (Refused n q) d₁
         unfolding itemWalk listWalk
         list-bad n′ q y =
-            rw (l, i) (both (rw (list-scan (tagByte t) o 64 g (layoutOf u) s p e, ← j, b, ← answers r, y)) (rw (list-marks (tagByte t) o 64 g (layoutOf u) f n s p e d, ← j, b, ← answers r, y) (tables r)))
+            let x = r ∙ whole-list (tagByte t) o c g (layoutOf u) s a z d in
+            rw (l, i) (both (rw (list-scan (tagByte t) o c g (layoutOf u) s p e, ← j, b, ← answers x, y)) (rw (list-marks (tagByte t) o c g (layoutOf u) f n s p e d, ← j, b, ← answers x, y) (tables x)))
 
-        pub list-all : (n′ : ℕ) (d₂ : List ℕ) → c ≡ Items n′ → d₂ ≡ noted f n p z n′ d₁ → Reads (Next z) d₂
+        pub list-all : (n′ : ℕ) (d₂ : List ℕ) → v ≡ Items n′ → d₂ ≡ noted f n p z n′ d₁ → Reads (Next z) d₂
         unfolding itemWalk listWalk
         list-all n′ d₂ y y′ =
-            rw (l, i) (both (rw (list-scan (tagByte t) o 64 g (layoutOf u) s p e, ← j, b, ← answers r, y)) (rw (list-marks (tagByte t) o 64 g (layoutOf u) f n s p e d, ← j, b, ← answers r, y, ← tables r) y′))
+            let x = r ∙ whole-list (tagByte t) o c g (layoutOf u) s a z d in
+            rw (l, i) (both (rw (list-scan (tagByte t) o c g (layoutOf u) s p e, ← j, b, ← answers x, y)) (rw (list-marks (tagByte t) o c g (layoutOf u) f n s p e d, ← j, b, ← answers x, y, ← tables x) y′))
 
-pub node-less : (x : Shape) (k : Kind) (t : Tag) → layoutOf x ≡ itemOf x k → k ≡ kind.Node t → suc (sizes (inner (layoutOf x))) < size (layoutOf x)
-unfolding size
-node-less x k t l i = let e : size (layoutOf x) ≡ suc (suc (sizes (inner (layoutOf x)))) = ap size (l ∙ ap (itemOf x) i) in omega arith
+-- what an item holds is smaller
+module _ (x : Structure) (k : Build) (t : Tag) (l : layoutOf x ≡ itemOf k) where
+  pub node-less : (m : Row) → k ≡ build.Node t m → suc (sizes (rowOf m)) < size (layoutOf x)
+  unfolding size
+  node-less m i = let e : size (layoutOf x) ≡ suc (suc (sizes (rowOf m))) = ap size (l ∙ ap itemOf i) in omega arith
 
-pub list-less : (x : Shape) (k : Kind) (t : Tag) (o : Bool) (f : Field) (u : Shape) → layoutOf x ≡ itemOf x k → k ≡ kind.List t o f u → suc (size (layoutOf u)) < size (layoutOf x)
-unfolding size
-list-less x k t o f u l i = let e : size (layoutOf x) ≡ suc (suc (size (layoutOf u))) = ap size (l ∙ ap (itemOf x) i) in omega arith
+  pub list-less : (o : Bool) (n : ℕ) (f : Field) (u : Structure) → k ≡ build.List t o n f u → suc (size (layoutOf u)) < size (layoutOf x)
+  unfolding size
+  list-less o n f u i = let e : size (layoutOf x) ≡ suc (suc (size (layoutOf u))) = ap size (l ∙ ap itemOf i) in omega arith
 
-pub wrap-less : (x : Shape) (k : Kind) (t : Tag) (u : Shape) → layoutOf x ≡ itemOf x k → k ≡ kind.Wrap t u → size (layoutOf u) < size (layoutOf x)
-unfolding size
-wrap-less x k t u l i = let e : size (layoutOf x) ≡ suc (size (layoutOf u)) = ap size (l ∙ ap (itemOf x) i) in omega arith
+  pub wrap-less : (u : Structure) → k ≡ build.Wrap t u → size (layoutOf u) < size (layoutOf x)
+  unfolding size
+  wrap-less u i = let e : size (layoutOf x) ≡ suc (size (layoutOf u)) = ap size (l ∙ ap itemOf i) in omega arith
 
 -- ---- a member
 
@@ -279,15 +290,15 @@ module _ (m : Member) (n : ℕ) (s : List ℕ) (p e : ℕ) (d : List ℕ) where
   unfolding memberWalk scan
   member-known w h y i j g = rw i (both (g ∙ passed h ∙ ap (λ (x : Seen). thenSeen x λ a z. Next z) j) refl)
 
-  pub member-leaf : (f : Field) (l : Form) (h : Seen) (y : Step) (d′ : List ℕ) → m ≡ member.Leaf f l → (h, d′) ≡ leafWalk (leafOf l) f n s p e d → y ≡ pastOf h → ReadsPart y d′
+  pub member-leaf : (f : Field) (l : Primitive) (h : Seen) (y : Step) (d′ : List ℕ) → m ≡ member.Leaf f l → (h, d′) ≡ leafWalk (leafOf l) f n s p e d → y ≡ pastOf h → ReadsPart y d′
   unfolding memberWalk
   member-leaf f l h y d′ i g o = rw i (leaf-past f n s p e d (leafOf l) h y d′ g o)
 
-  pub member-part : (f : Field) (x : Shape) (y : Step) (d′ : List ℕ) → m ≡ member.Part f x → (y, d′) ≡ itemWalk (layoutOf x) f n s p e d → ReadsPart y d′
+  pub member-part : (f : Field) (x : Structure) (y : Step) (d′ : List ℕ) → m ≡ member.Part f x → (y, d′) ≡ itemWalk (layoutOf x) f n s p e d → ReadsPart y d′
   unfolding memberWalk
   member-part f x y d′ i g = g ∙ sym (ap (λ (k : Member). memberWalk k n s p e d) i)
 
-  module _ (f : Field) (x : Shape) (t : Tag) (b : Bool) (i : m ≡ member.Maybe f x) (j : tagByte t ≡ tagOf (layoutOf x)) (h : b ≡ beginsAt (tagByte t) s p e) where
+  module _ (f : Field) (x : Structure) (t : Tag) (b : Bool) (i : m ≡ member.Maybe f x) (j : tagByte t ≡ tagOf (layoutOf x)) (h : b ≡ beginsAt (tagByte t) s p e) where
     pub maybe-yes : (y : Step) (d′ : List ℕ) → b ≡ true → (y, d′) ≡ itemWalk (layoutOf x) f n s p e d → ReadsPart y d′
     unfolding memberWalk itemWalk scan marks pick
     maybe-yes y d′ o g = rw i (both (rw (← j, ← h, o) (answers g)) (rw (← j, ← h, o) (tables g)))
@@ -297,7 +308,7 @@ module _ (m : Member) (n : ℕ) (s : List ℕ) (p e : ℕ) (d : List ℕ) where
     maybe-no o = rw i (both (rw (← j, ← h, o)) (rw (← j, ← h, o)))
 
   module _ (f : Field) (b : Bool) (i : m ≡ member.Flag f) (h : b ≡ beginsAt (tagByte tag.Boolean) s p e) where
-    pub flag-yes : (x : Seen) (y : Step) (d′ : List ℕ) → b ≡ true → (x, d′) ≡ leafWalk (leafOf form.Critical) f n s p e d → y ≡ pastOf x → ReadsPart y d′
+    pub flag-yes : (x : Seen) (y : Step) (d′ : List ℕ) → b ≡ true → (x, d′) ≡ leafWalk (leafOf primitive.Critical) f n s p e d → y ≡ pastOf x → ReadsPart y d′
     unfolding memberWalk leafWalk scan marks pick
     flag-yes x y d′ o g r = rw i (both (rw (← h, o, ← answers g) (r ∙ passed x)) (rw (← h, o) (tables g)))
 
@@ -305,7 +316,7 @@ module _ (m : Member) (n : ℕ) (s : List ℕ) (p e : ℕ) (d : List ℕ) where
     unfolding memberWalk scan marks pick
     flag-no o = rw i (both (rw (← h, o)) (rw (← h, o)))
 
-  module _ (f : Field) (l : Form) (c : Content) (g : Field) (x u : Shape) (i : m ≡ member.Choice f l c g x u) (h : Seen) (d₁ : List ℕ) (j : (h, d₁) ≡ leafWalk (leafOf l) f n s p e d) where
+  module _ (f : Field) (l : Primitive) (c : Content) (g : Field) (x u : Structure) (i : m ≡ member.Choice f l c g x u) (h : Seen) (d₁ : List ℕ) (j : (h, d₁) ≡ leafWalk (leafOf l) f n s p e d) where
     pub choice-refused : (k q : ℕ) (y : Step) → h ≡ Bad k q → y ≡ pastOf h → ReadsPart y d₁
     unfolding memberWalk leafWalk scan marks leafMarks
     choice-refused k q y b o = rw i (both (rw (← answers j, b) (o ∙ ap pastOf b)) (rw (← answers j, b) (tables j ∙ rw (← answers j, b))))
@@ -321,19 +332,19 @@ module _ (m : Member) (n : ℕ) (s : List ℕ) (p e : ℕ) (d : List ℕ) where
 
 -- what a member holds is smaller
 module _ (m : Member) where
-  pub part-less : (f : Field) (x : Shape) → m ≡ member.Part f x → size (layoutOf x) < sizeOf m
+  pub part-less : (f : Field) (x : Structure) → m ≡ member.Part f x → size (layoutOf x) < sizeOf m
   unfolding sizeOf
   part-less f x i = rw i (omega arith)
 
-  pub maybe-less : (f : Field) (x : Shape) → m ≡ member.Maybe f x → size (layoutOf x) < sizeOf m
+  pub maybe-less : (f : Field) (x : Structure) → m ≡ member.Maybe f x → size (layoutOf x) < sizeOf m
   unfolding sizeOf
   maybe-less f x i = rw i (omega arith)
 
-  pub first-less : (f : Field) (l : Form) (c : Content) (g : Field) (x y : Shape) → m ≡ member.Choice f l c g x y → size (layoutOf x) < sizeOf m
+  pub first-less : (f : Field) (l : Primitive) (c : Content) (g : Field) (x y : Structure) → m ≡ member.Choice f l c g x y → size (layoutOf x) < sizeOf m
   unfolding sizeOf
   first-less f l c g x y i = rw i (omega arith)
 
-  pub second-less : (f : Field) (l : Form) (c : Content) (g : Field) (x y : Shape) → m ≡ member.Choice f l c g x y → size (layoutOf y) < sizeOf m
+  pub second-less : (f : Field) (l : Primitive) (c : Content) (g : Field) (x y : Structure) → m ≡ member.Choice f l c g x y → size (layoutOf y) < sizeOf m
   unfolding sizeOf
   second-less f l c g x y i = rw i (omega arith)
 
@@ -367,7 +378,7 @@ size-split (member.Choice f l c g x y) ms = omega arith
 unfoldable pub from : ℕ → List Member → Members
 from k ms = membersOf (drop k ms)
 
-module _ (ms : List Member) (d : Member) (k : ℕ) (n : length ms ≡ 6) (r : k < 6) where
+module _ (ms : List Member) (d : Member) (k w : ℕ) (n : length ms ≡ w) (r : k < w) where
   at-k : drop k ms ≡ getD ms k d ∷ drop (k + 1) ms
   at-k = drop-cons ms k d (omega arith) ∙ ap (λ (n : ℕ). getD ms k d ∷ drop n ms) (sym (add-one k))
 
@@ -387,21 +398,21 @@ module _ (ms : List Member) (d : Member) (k : ℕ) (n : length ms ≡ 6) (r : k 
   row-less = rw at-k (size-split (getD ms k d) (drop (k + 1) ms))
 
   -- a member is less than its node
-  pub member-smaller : (x : Shape) (t : ℕ) → suc (sizes (inner (layoutOf x))) ≡ t → inner (layoutOf x) ≡ membersOf ms → sizes (from k ms) ≤ sizes (membersOf ms) → sizeOf (getD ms k d) < t
-  member-smaller x t h g f = let b = row-less in let q : sizes (inner (layoutOf x)) ≡ sizes (membersOf ms) = ap sizes g in omega arith
+  pub member-smaller : (x : Row) (t : ℕ) → suc (sizes (rowOf x)) ≡ t → rowOf x ≡ membersOf ms → sizes (from k ms) ≤ sizes (membersOf ms) → sizeOf (getD ms k d) < t
+  member-smaller x t h g f = let b = row-less in let q : sizes (rowOf x) ≡ sizes (membersOf ms) = ap sizes g in omega arith
 
 -- what is left is no more than the whole
-pub row-fewer : (ms : List Member) (k : ℕ) → length ms ≡ 6 → k < 6 → sizes (from k ms) ≤ sizes (membersOf ms) → sizes (from (k + 1) ms) ≤ sizes (membersOf ms)
-row-fewer ms k n r h = let b = row-less ms member.Blank k n r in omega arith
+pub row-fewer : (ms : List Member) (k w : ℕ) → length ms ≡ w → k < w → sizes (from k ms) ≤ sizes (membersOf ms) → sizes (from (k + 1) ms) ≤ sizes (membersOf ms)
+row-fewer ms k w n r h = let b = row-less ms member.Blank k w n r in omega arith
 
 drop-all : (ms : List Member) (k : ℕ) → length ms ≤ k → drop k ms ≡ []
 drop-all [] k h = drop-nil k
 drop-all (x ∷ ms) zero h = absurd (omega arith)
 drop-all (x ∷ ms) (suc k) h = drop-all ms k (omega arith)
 
-pub row-over : (ms : List Member) (i : ℕ) (s : List ℕ) (p e k : ℕ) (t : List ℕ) (y : Step) → length ms ≡ 6 → 6 ≤ k → y ≡ closeAt p e → (y, t) ≡ rowWalk (from k ms) i s p e t
+pub row-over : (ms : List Member) (i : ℕ) (s : List ℕ) (p e k w : ℕ) (t : List ℕ) (y : Step) → length ms ≡ w → w ≤ k → y ≡ closeAt p e → (y, t) ≡ rowWalk (from k ms) i s p e t
 unfolding rowWalk from scan marks
-row-over ms i s p e k t y n h g = rw (drop-all ms k (omega arith)) (both g refl)
+row-over ms i s p e k w t y n h g = rw (drop-all ms k (omega arith)) (both g refl)
 
 pub row-first : (ms : List Member) (i : ℕ) (s : List ℕ) (p e : ℕ) (t : List ℕ) → rowWalk (membersOf ms) i s p e t ≡ rowWalk (from 0 ms) i s p e t
 unfolding from
@@ -411,8 +422,8 @@ pub size-first : (ms : List Member) → sizes (from 0 ms) ≤ sizes (membersOf m
 unfolding from
 size-first ms = omega arith
 
-pub row-whole : (x : Shape) (ms : List Member) (i : ℕ) (s : List ℕ) (a e k p : ℕ) (t₀ t : List ℕ) (y : Step × List ℕ) → inner (layoutOf x) ≡ membersOf ms
-    → rowWalk (membersOf ms) i s a e t₀ ≡ rowWalk (from k ms) i s p e t → y ≡ rowWalk (from k ms) i s p e t → y ≡ rowWalk (inner (layoutOf x)) i s a e t₀
+pub row-whole : (x : Row) (ms : List Member) (i : ℕ) (s : List ℕ) (a e k p : ℕ) (t₀ t : List ℕ) (y : Step × List ℕ) → rowOf x ≡ membersOf ms
+    → rowWalk (membersOf ms) i s a e t₀ ≡ rowWalk (from k ms) i s p e t → y ≡ rowWalk (from k ms) i s p e t → y ≡ rowWalk (rowOf x) i s a e t₀
 row-whole x ms i s a e k p t₀ t y h g f = f ∙ sym g ∙ ap (λ (r : Members). rowWalk r i s a e t₀) (sym h)
 
 pub chain : {A : Type 0} (x y z : A) → x ≡ y → y ≡ z → x ≡ z
@@ -423,32 +434,32 @@ over x y z e f = f ∙ sym e
 
 -- ---- a list's items
 
-module _ (i : Item) (f : Field) (s : List ℕ) (e k p : ℕ) (d : List ℕ) where
-  fewer : (k ≡ 64 → ⊥) → k ≤ 64 → 64 - k ≡ suc (64 - (k + 1))
+module _ (i : Item) (f : Field) (n : ℕ) (s : List ℕ) (e k p : ℕ) (d : List ℕ) where
+  fewer : (k ≡ n → ⊥) → k ≤ n → n - k ≡ suc (n - (k + 1))
   fewer h l = omega (arith, h)
 
-  pub many-16 : k ≡ 64 → p < e → (Uncounted too-many-items p, d) ≡ listWalk i f k s p e d
+  pub many-16 : k ≡ n → p < e → (Uncounted too-many-items p, d) ≡ listWalk i f n k s p e d
   unfolding listWalk tally manyMarks pick
-  many-16 z h = both (rw (z, lt-ltb p e h)) (rw z)
+  many-16 z h = let q : n - k ≡ 0 = omega arith in both (rw (q, lt-ltb p e h)) (rw q)
 
-  module _ (x : Step) (d′ : List ℕ) (z : k ≡ 64 → ⊥) (l : k ≤ 64) (h : p < e) (g : (x, d′) ≡ itemWalk i f k s p e d) where
-    pub many-bad : (m q : ℕ) → x ≡ Refused m q → (Uncounted m q, d′) ≡ listWalk i f k s p e d
+  module _ (x : Step) (d′ : List ℕ) (z : k ≡ n → ⊥) (l : k ≤ n) (h : p < e) (g : (x, d′) ≡ itemWalk i f k s p e d) where
+    pub many-bad : (m q : ℕ) → x ≡ Refused m q → (Uncounted m q, d′) ≡ listWalk i f n k s p e d
     unfolding listWalk itemWalk tally manyMarks pick
     many-bad m q j = both (rw (fewer z l, lt-ltb p e h, ← answers g, j)) (rw (fewer z l, lt-ltb p e h, ← answers g, j) (tables g))
 
-    pub many-on : (q : ℕ) → x ≡ Next q → listWalk i f k s p e d ≡ listWalk i f (k + 1) s q e d′
+    pub many-on : (q : ℕ) → x ≡ Next q → listWalk i f n k s p e d ≡ listWalk i f n (k + 1) s q e d′
     unfolding listWalk itemWalk tally manyMarks pick
     many-on q j =
         let r : k + 1 ≡ suc k = add-one k in
         both (rw (fewer z l, lt-ltb p e h, ← answers g, j, r)) (rw (fewer z l, lt-ltb p e h, ← answers g, j, ← tables g, r))
 
-  pub many-end : e ≤ p → (Items k, d) ≡ listWalk i f k s p e d
+  pub many-end : e ≤ p → (Items k, d) ≡ listWalk i f n k s p e d
   unfolding listWalk tally manyMarks pick
-  many-end h = go (64 - k)
+  many-end h = go (n - k)
     where
-      go : (n : ℕ) → _≡_ {A = Tally × List ℕ} (Items k, d) (tally (λ q. scan i s q e) n k p e, manyMarks (λ q. scan i s q e) (λ j q x. marks i f j s q e x) n k p e d)
+      go : (j : ℕ) → _≡_ {A = Tally × List ℕ} (Items k, d) (tally (λ q. scan i s q e) j k p e, manyMarks (λ q. scan i s q e) (λ m q x. marks i f m s q e x) j k p e d)
       go zero = both (rw (le-ltb p e h)) refl
-      go (suc n) = both (rw (le-ltb p e h)) (rw (le-ltb p e h))
+      go (suc j) = both (rw (le-ltb p e h)) (rw (le-ltb p e h))
 
 -- ---- a record
 

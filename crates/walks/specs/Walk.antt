@@ -5,7 +5,7 @@ use mathlib.Core.Bool.{Bool, _||_}
 use mathlib.Core.List.{List}
 use lib.Dec.{ltb}
 use Rattle.terms.specs.declared.Field.{Field}
-use Rattle.terms.specs.Numbers.{no-item, most-items, largest-record}
+use Rattle.terms.specs.Numbers.{no-item, largest-record}
 use Rattle.terms.specs.Answer.{pick}
 use Rattle.heads.specs.Scan.{headAt}
 use Rattle.heads.specs.declared.Seen.{Seen}
@@ -17,9 +17,11 @@ use Rattle.layouts.specs.Layout.{Item, leaf, Members, Member as Part, known, ma
 use Rattle.layouts.specs.Scan.{thenJudge, leafAt, scan, scans, scanPart, recordScan}
 use Rattle.layouts.specs.Marks.{tally, manyMarks, leafMarks, marks, marksAll, marksPart, recordMarks}
 use Rattle.layouts.specs.declared.Tally.{Tally}
-use Rattle.tables.specs.declared.Member.{Member}
-use Rattle.tables.specs.declared.Member.the-variants as member
-use Rattle.tables.specs.Table.{leafOf, knownOf, layoutOf, choiceOf}
+use Rattle.primitives.specs.Primitive.{leafOf, knownOf}
+use Rattle.structures.specs.Structure.{layoutOf}
+use Rattle.rows.specs.declared.Member.{Member}
+use Rattle.rows.specs.declared.Member.the-variants as member
+use Rattle.rows.specs.Row.{choiceOf}
 
 -- the head of a list: 15 where it has no item and needs one
 unfoldable pub listHeadAt : ℕ → Bool → List ℕ → ℕ → ℕ → Seen
@@ -44,11 +46,11 @@ memberWalk (member.Maybe f x) k s p e d = (scanPart (maybe f (layoutOf x)) s p e
 memberWalk (member.Flag f) k s p e d = (scanPart (flag f) s p e, marksPart (flag f) k s p e d)
 memberWalk (member.Choice f l c g x y) k s p e d = (scanPart (choiceOf f l c g x y) s p e, marksPart (choiceOf f l c g x y) k s p e d)
 
--- the items of a list, of which so many stand before here
-unfoldable pub listWalk : Item → Field → ℕ → List ℕ → ℕ → ℕ → List ℕ → Tally × List ℕ
-listWalk i f k s p e d = (
-  tally (λ q. scan i s q e) (most-items - k) k p e,
-  manyMarks (λ q. scan i s q e) (λ j q x. marks i f j s q e x) (most-items - k) k p e d,
+-- the items of a list, at most `n`, of which `k` stand before here
+unfoldable pub listWalk : Item → Field → ℕ → ℕ → List ℕ → ℕ → ℕ → List ℕ → Tally × List ℕ
+listWalk i f n k s p e d = (
+  tally (λ q. scan i s q e) (n - k) k p e,
+  manyMarks (λ q. scan i s q e) (λ j q x. marks i f j s q e x) (n - k) k p e d,
 )
 
 unfoldable pub recordWalk : Members → List ℕ → ℕ → ℕ → List ℕ → Step × List ℕ

@@ -3,46 +3,46 @@ use heads::Seen;
 use heads::Step;
 use items::Tag;
 use layouts::Tally;
-use tables::Form;
-use tables::Kind;
-use tables::MEMBERS;
-use tables::Member;
-use tables::Shape;
+use primitives::Primitive;
+use rows::MEMBERS;
+use rows::Member;
+use structures::Build;
+use structures::Row;
+use structures::Structure;
 use terms::Field;
+use terms::LARGEST_RECORD;
+use terms::NO_ITEM;
+use terms::TOO_MANY_ITEMS;
 ghost use mathlib.Core.Path.{_≡_};
 ghost use Rattle.items.specs.Scan.{tagByte};
-ghost use Rattle.tables.specs.Table.{leafOf, inner, layoutOf};
+ghost use Rattle.primitives.specs.Primitive.{leafOf};
+ghost use Rattle.structures.specs.Structure.{rowOf, layoutOf};
 ghost use Rattle.walks.specs.Walk.{listHeadAt, leafWalk, itemWalk, rowWalk, memberWalk, listWalk, recordWalk};
-
-// The most bytes of a record, header included.
-const LARGEST_RECORD: usize = 65535;
-
-// The most items of a list.
-const MOST_ITEMS: usize = 64;
-
-// A certificate list with no item.
-const NO_ITEM: u8 = 15;
-
-// A 65th item in a list.
-const TOO_MANY_ITEMS: u8 = 16;
 
 // A primitive item under its name, and its index in a list: where its content lies, or its refusal.
 fn leaf(
     s: &[u8],
-    form: Form,
+    primitive: Primitive,
     name: Field,
     index: usize,
     at: usize,
     end: usize,
     places: &mut [usize],
 ) -> Seen
-    ensures { λ r. ⌜ (r, now (places .exit)) ≡ leafWalk (leafOf form) name index (now (s .entry)) at end (now (places .entry)) ⌝ }
+    ensures { λ r. ⌜ (r, now (places .exit)) ≡ leafWalk (leafOf primitive) name index (now (s .entry)) at end (now (places .entry)) ⌝ }
 {
-    let h = leaves::leaf(s, form, at, end);
+    let h = leaves::leaf(s, primitive, at, end);
     let Seen::Item(a, z) = h else {
         return h;
     };
-    places::note(places, name, index, a + tables::hidden_of(form), z, 0);
+    places::note(
+        places,
+        name,
+        index,
+        a + primitives::hidden_of(primitive),
+        z,
+        0,
+    );
     Seen::Item(a, z)
 }
 
@@ -63,7 +63,7 @@ fn list_head(s: &[u8], t: Tag, empty: bool, at: usize, end: usize) -> Seen
 // An item under its name, up to its encloser's end: where what follows it starts, or the first refusal in it.
 fn item(
     s: &[u8],
-    x: Shape,
+    x: Structure,
     name: Field,
     index: usize,
     at: usize,
@@ -72,23 +72,29 @@ fn item(
 ) -> Step
     ensures { λ r. ⌜ (r, now (places .exit)) ≡ itemWalk (layoutOf x) name index (now (s .entry)) at end (now (places .entry)) ⌝ }
 {
-    let k = tables::kind_of(x);
-    match k {
-        Kind::Leaf(form) => leaves::past(leaf(s, form, name, index, at, end, places)),
-        Kind::Node(t) => {
+    let b = structures::build_of(x);
+    match b {
+        Build::Leaf(primitive) => leaves::past(leaf(s, primitive, name, index, at, end, places)),
+        Build::Node(t, members) => {
             let h = items::head(s, t, at, end);
             let Seen::Item(a, z) = h else {
                 return leaves::past(h);
             };
             places::note(places, name, index, at, z, 0);
-            row(s, x, index, a, z, places)
+            row(s, members, index, a, z, places)
         }
-        Kind::List(t, empty, each, y) => {
-            let h = list_head(s, t, empty, at, end);
+        Build::List {
+            tag,
+            empty,
+            most,
+            name: item_name,
+            each,
+        } => {
+            let h = list_head(s, tag, empty, at, end);
             let Seen::Item(a, z) = h else {
                 return leaves::past(h);
             };
-            let c = list(s, y, each, a, z, places);
+            let c = list(s, each, most, item_name, a, z, places);
             match c {
                 Tally::Refused(number, place) => Step::Refused(number, place),
                 Tally::Items(n) => {
@@ -97,7 +103,7 @@ fn item(
                 }
             }
         }
-        Kind::Wrap(t, y) => {
+        Build::Wrap(t, y) => {
             let h = items::head(s, t, at, end);
             let Seen::Item(a, z) = h else {
                 return leaves::past(h);
@@ -112,10 +118,10 @@ fn item(
 }
 
 // The members of a row, one after another, to the end: 5 if bytes are left over.
-fn row(s: &[u8], x: Shape, index: usize, at: usize, end: usize, places: &mut [usize]) -> Step
-    ensures { λ r. ⌜ (r, now (places .exit)) ≡ rowWalk (inner (layoutOf x)) index (now (s .entry)) at end (now (places .entry)) ⌝ }
+fn row(s: &[u8], x: Row, index: usize, at: usize, end: usize, places: &mut [usize]) -> Step
+    ensures { λ r. ⌜ (r, now (places .exit)) ≡ rowWalk (rowOf x) index (now (s .entry)) at end (now (places .entry)) ⌝ }
 {
-    let members = tables::members_of(x);
+    let members = rows::members_of(x);
     let mut p = at;
     let mut k: usize = 0;
     while k < MEMBERS {
@@ -136,29 +142,31 @@ fn member(s: &[u8], m: Member, index: usize, at: usize, end: usize, places: &mut
     match m {
         Member::Blank => Step::Next(at),
         Member::Known(w) => leaves::past(leaves::known(s, w, at, end)),
-        Member::Leaf(name, form) => leaves::past(leaf(s, form, name, index, at, end, places)),
+        Member::Leaf(name, primitive) => {
+            leaves::past(leaf(s, primitive, name, index, at, end, places))
+        }
         Member::Part(name, x) => item(s, x, name, index, at, end, places),
         Member::Maybe(name, x) => {
-            if leaves::begins(s, tables::tag_of(x), at, end) {
+            if leaves::begins(s, structures::tag_of(x), at, end) {
                 return item(s, x, name, index, at, end, places);
             }
             Step::Next(at)
         }
         Member::Flag(name) => {
             if leaves::begins(s, Tag::Boolean, at, end) {
-                return leaves::past(leaf(s, Form::Critical, name, index, at, end, places));
+                return leaves::past(leaf(s, Primitive::Critical, name, index, at, end, places));
             }
             Step::Next(at)
         }
         Member::Choice {
             by,
-            form,
+            primitive,
             content,
             name,
             first,
             second,
         } => {
-            let h = leaf(s, form, by, index, at, end, places);
+            let h = leaf(s, primitive, by, index, at, end, places);
             let Seen::Item(a, z) = h else {
                 return leaves::past(h);
             };
@@ -170,14 +178,22 @@ fn member(s: &[u8], m: Member, index: usize, at: usize, end: usize, places: &mut
     }
 }
 
-// The items of a list, one after another, to the end, and their number: 16 at the 65th.
-fn list(s: &[u8], x: Shape, name: Field, at: usize, end: usize, places: &mut [usize]) -> Tally
-    ensures { λ r. ⌜ (r, now (places .exit)) ≡ listWalk (layoutOf x) name 0 (now (s .entry)) at end (now (places .entry)) ⌝ }
+// The items of a list, one after another, to the end, and their number: 16 where there is one more than the most.
+fn list(
+    s: &[u8],
+    x: Structure,
+    most: usize,
+    name: Field,
+    at: usize,
+    end: usize,
+    places: &mut [usize],
+) -> Tally
+    ensures { λ r. ⌜ (r, now (places .exit)) ≡ listWalk (layoutOf x) name most 0 (now (s .entry)) at end (now (places .entry)) ⌝ }
 {
     let mut p = at;
     let mut k: usize = 0;
     while p < end {
-        if k == MOST_ITEMS {
+        if k == most {
             return Tally::Refused(TOO_MANY_ITEMS, p);
         }
         let r = item(s, x, name, k, p, end, places);
@@ -192,8 +208,8 @@ fn list(s: &[u8], x: Shape, name: Field, at: usize, end: usize, places: &mut [us
 
 // A record at a position, whatever follows it: where it ends, or the first refusal in it. The fields that it passes are noted, also
 // those before a refusal.
-pub fn record(s: &[u8], x: Shape, at: usize, end: usize, places: &mut [usize]) -> Step
-    ensures { λ r. ⌜ (r, now (places .exit)) ≡ recordWalk (inner (layoutOf x)) (now (s .entry)) at end (now (places .entry)) ⌝ }
+pub fn record(s: &[u8], x: Row, at: usize, end: usize, places: &mut [usize]) -> Step
+    ensures { λ r. ⌜ (r, now (places .exit)) ≡ recordWalk (rowOf x) (now (s .entry)) at end (now (places .entry)) ⌝ }
 {
     let h = items::outermost(s, LARGEST_RECORD, Tag::Sequence, at, end);
     let Seen::Item(a, z) = h else {

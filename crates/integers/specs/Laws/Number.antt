@@ -17,7 +17,7 @@ use mir.Facts.{toZ-pos, toZ-ofZ}
 use borrow.Author.Tests.{lt-ltb, le-ltb, le-leb, lt-leb, not-true, not-false}
 use Rattle.terms.specs.Numbers.{bad-integer, not-allowed}
 use Rattle.terms.specs.Answer.{pick, same}
-use Rattle.terms.specs.Laws.Answer.{test, is-true, is-false, pick-yes, pick-no}
+use Rattle.terms.specs.Laws.Answer.{never, test, is-true, is-false, pick-yes, pick-no}
 use Rattle.terms.specs.Digits.{digits, numberFrom, number}
 use Rattle.terms.specs.Laws.Digits.{pow-pos}
 use Rattle.contents.specs.Integer.{sign, shortest, wellFormed, turned, value, fromOne, eight, shrink, contentOf}
@@ -202,13 +202,13 @@ unfolding numberOf
 number-well c z e =
     test (wellFormed c)
     (λ h. let q : Value (value c) ≡ Value z = sym (pick-yes (wellFormed c) _ _ h) ∙ e in let v : value c ≡ z = cc in (is-true (wellFormed c) h, v))
-    (λ h. let q : Bad ≡ Value z = sym (pick-no (wellFormed c) _ _ h) ∙ e in let y : _≡_ {A = ℕ} 0 1 = cc in let f : ⊥ = omega arith in absurd f)
+    (λ h. let q : Bad ≡ Value z = sym (pick-no (wellFormed c) _ _ h) ∙ e in never (cc))
 
 number-ill : (c : List ℕ) → numberOf c ≡ Bad → wellFormed c ≡ false
 unfolding numberOf
 number-ill c e =
     test (wellFormed c)
-    (λ h. let q : Value (value c) ≡ Bad = sym (pick-yes (wellFormed c) _ _ h) ∙ e in let y : _≡_ {A = ℕ} 0 1 = cc in let f : ⊥ = omega arith in absurd f)
+    (λ h. let q : Value (value c) ≡ Bad = sym (pick-yes (wellFormed c) _ _ h) ∙ e in never (cc))
     (λ h. is-false (wellFormed c) h)
 
 module _ (s : List ℕ) (p a z : ℕ) (x : Number) (is : x ≡ numberAt s a z) (k : Allowed) where

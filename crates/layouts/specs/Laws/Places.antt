@@ -11,8 +11,8 @@ use lib.Seq.{sets, sets-eq, length-sets, length-take-le, getD-set-other, getD-ap
 use lib.Dec.{T, eqb, ltb, T-not, eqb→eq, ltb→lt, lt→ltb}
 use borrow.Author.Tests.{eq-eqb}
 use Rattle.terms.specs.declared.Field.{Field}
-use Rattle.terms.specs.Names.{code, sameName}
-use Rattle.terms.specs.Laws.Names.{code-below, nameOf, code-name}
+use Rattle.terms.specs.Names.{code, nameOf, sameName}
+use Rattle.terms.specs.Laws.Names.{code-below, code-name}
 use Rattle.terms.specs.Laws.Answer.{test, and-l, and-r, both, pick-yes, pick-no}
 use Rattle.layouts.specs.Fields.{Entry, isField, first}
 use Rattle.layouts.specs.Places.{table-size, slot, under, numbersOf, Placed}

@@ -1,11 +1,11 @@
--- `leaves::leaf`: the head, then the rule of the form.
+-- `leaves::leaf`: the head, then the rule of its content.
 use Rattle.leaves.specs.Laws.{rule-refused, rule-judged}
 use borrow.Author.Needs.{needs}
 use Rattle.leaves.proofs.leaf.Statement.{statement}
 use Rattle.leaves.proofs.leaf.Tie as tie
 
-tag-of-form-requires : tie.Need-tag-of-form-requires
-tag-of-form-requires c κs = search needs
+tag-of-requires : tie.Need-tag-of-requires
+tag-of-requires c κs = search needs
 
 head-requires : tie.Need-head-requires
 head-requires c κs = search needs
@@ -32,7 +32,7 @@ pub leaf-spec : {M : Type 1} → statement M
 leaf-spec =
     tie.close
     (tie.spec
-    tag-of-form-requires
+    tag-of-requires
     head-requires
     enum-known-h
     enum-told

@@ -1,5 +1,5 @@
--- `leaves::rule`: each form by its own rule.
-use Rattle.leaves.specs.Laws.{form-rule}
+-- `leaves::rule`: each primitive item by its own rule.
+use Rattle.leaves.specs.Laws.{primitive-rule}
 use borrow.Author.Needs.{needs}
 use Rattle.leaves.proofs.rule.Statement.{statement}
 use Rattle.leaves.proofs.rule.Tie as tie
@@ -83,43 +83,43 @@ boolean-requires : tie.Need-boolean-requires
 boolean-requires c κs = search needs
 
 returns : tie.Need-returns
-returns c = search (needs, form-rule)
+returns c = search (needs, primitive-rule)
 
 returns-2 : tie.Need-returns-2
-returns-2 c = search (needs, form-rule)
+returns-2 c = search (needs, primitive-rule)
 
 returns-3 : tie.Need-returns-3
-returns-3 c = search (needs, form-rule)
+returns-3 c = search (needs, primitive-rule)
 
 returns-4 : tie.Need-returns-4
-returns-4 c = search (needs, form-rule)
+returns-4 c = search (needs, primitive-rule)
 
 returns-5 : tie.Need-returns-5
-returns-5 c = search (needs, form-rule)
+returns-5 c = search (needs, primitive-rule)
 
 returns-6 : tie.Need-returns-6
-returns-6 c = search (needs, form-rule)
+returns-6 c = search (needs, primitive-rule)
 
 returns-7 : tie.Need-returns-7
-returns-7 c = search (needs, form-rule)
+returns-7 c = search (needs, primitive-rule)
 
 returns-8 : tie.Need-returns-8
-returns-8 c = search (needs, form-rule)
+returns-8 c = search (needs, primitive-rule)
 
 returns-9 : tie.Need-returns-9
-returns-9 c = search (needs, form-rule)
+returns-9 c = search (needs, primitive-rule)
 
 returns-10 : tie.Need-returns-10
-returns-10 c = search (needs, form-rule)
+returns-10 c = search (needs, primitive-rule)
 
 returns-11 : tie.Need-returns-11
-returns-11 c = search (needs, form-rule)
+returns-11 c = search (needs, primitive-rule)
 
 returns-12 : tie.Need-returns-12
-returns-12 c = search (needs, form-rule)
+returns-12 c = search (needs, primitive-rule)
 
 returns-13 : tie.Need-returns-13
-returns-13 c = search (needs, form-rule)
+returns-13 c = search (needs, primitive-rule)
 
 pub rule-spec : {M : Type 1} → statement M
 rule-spec =

@@ -9,9 +9,13 @@ use lib.Dec.{T, eqb, ltb, eqb→eq, lt→ltb}
 use borrow.Author.Tests.{eq-eqb, le-ltb}
 use Rattle.terms.specs.Answer.{Res, good, fault, pick, bind, need, have, same}
 
+-- 0 is not 1, which is what two different cases that are the same come to
+pub never {ℓ} : {X : Type ℓ} → _≡_ {A = ℕ} 0 1 → X
+never e = let f : ⊥ = omega arith in absurd f
+
 -- a refusal is no answer
 pub clash {ℓ} : {A : Type 0} {X : Type ℓ} {n p : ℕ} {a : A} → fault n p ≡ good a → X
-clash {A} {X} {n} {p} {a} e = let z : _≡_ {A = ℕ} 0 1 = cc in let f : ⊥ = omega arith in absurd f
+clash {A} {X} {n} {p} {a} e = never (cc)
 
 pub good-inj : {A : Type 0} {a b : A} → good a ≡ good b → a ≡ b
 good-inj e = cc

@@ -12,7 +12,7 @@ use lib.Arith.{mod-mul, digits-lt, digits-div, digits-mod}
 use lib.Dec.{T, leb, ltb, leb→le, ltb→lt, le→leb, lt→ltb}
 use Rattle.terms.specs.Answer.{every}
 use Rattle.terms.specs.Digits.{digits, numberFrom, number, isByte, leading}
-use Rattle.terms.specs.Laws.Answer.{test, and-l, and-r, both, pick-yes, pick-no}
+use Rattle.terms.specs.Laws.Answer.{never, test, and-l, and-r, both, pick-yes, pick-no}
 
 pub pow-pos : {base : ℕ} → 0 < base → (k : ℕ) → 0 < base ^ k
 pow-pos {base} h zero = rw (pow-zero base) (omega arith)
@@ -95,4 +95,4 @@ leading-back k w x e =
     let i : (number 256 (take k w), drop k w) ≡ x = cc in
     let d : digits 256 k (number 256 (take k w)) ≡ take k w = subst (λ (m : ℕ). digits 256 m (number 256 (take k w)) ≡ take k w) l (digits-number 256 b (take k w) s) in
     rw (← i) (rw d (sym (take-append-drop k w)), subst (λ (m : ℕ). number 256 (take k w) < 256 ^ m) l (number-small 256 b (take k w) s)))
-    (λ h. let q : none ≡ some x = sym (pick-no _ _ _ h) ∙ e in let z : _≡_ {A = ℕ} 0 1 = cc in let y : ⊥ = omega arith in absurd y)
+    (λ h. let q : none ≡ some x = sym (pick-no _ _ _ h) ∙ e in never (cc))

@@ -1,4 +1,4 @@
--- The numbers of the names: each is below 43, and each number below 43 is one name's. Assumes nothing.
+-- The numbers of the names: each is below their count, and each number below that is one name's. Assumes nothing.
 use mathlib.Core.Path.{_≡_, _∙_}
 use Prim.Native.Nat.{ℕ, suc, zero, _+_, _<_}
 use native.Mathlib.Omega.{arith}
@@ -8,11 +8,10 @@ use lib.ListN.{length, getD}
 use lib.Dec.{T, eqb, eqb→eq, lit<}
 use Rattle.terms.specs.declared.Field.{Field}
 use Rattle.terms.specs.declared.Field.the-variants.{SealInformation, Header, Vendor, SealId, Property, SealType, SealName, ListKind, CertificateList, ListedCertificate, ListedEntry, ListedType, ListedDigest, Created, Start, End, Picture, PictureType, PictureData, Width, Height, SealCustomData, SealCustomItem, SealCustomId, SealCustomCritical, SealCustomValue, MakerCertificate, SealAlgorithm, SealSignedValue, SignedPart, Seal, SigningTime, OriginalDigest, PropertyText, SignedCustomData, SignedCustomItem, SignedCustomId, SignedCustomCritical, SignedCustomValue, SignerCertificate, SignatureAlgorithm, SignatureValue, Stamp}
-use Rattle.terms.specs.Names.{code}
+use Rattle.terms.specs.Names.{code, names-count, names, nameOf}
 use Rattle.terms.specs.Laws.Answer.{and-l, and-r}
 
--- a name's number is below 43
-pub code-below : (f : Field) → code f < 43
+pub code-below : (f : Field) → code f < names-count
 unfolding code
 code-below SealInformation = lit< tt
 code-below Header = lit< tt
@@ -58,10 +57,6 @@ code-below SignatureAlgorithm = lit< tt
 code-below SignatureValue = lit< tt
 code-below Stamp = lit< tt
 
--- the names in the order of their numbers
-abbrev names : List Field
-names = SealInformation ∷ Header ∷ Vendor ∷ SealId ∷ Property ∷ SealType ∷ SealName ∷ ListKind ∷ CertificateList ∷ ListedCertificate ∷ ListedEntry ∷ ListedType ∷ ListedDigest ∷ Created ∷ Start ∷ End ∷ Picture ∷ PictureType ∷ PictureData ∷ Width ∷ Height ∷ SealCustomData ∷ SealCustomItem ∷ SealCustomId ∷ SealCustomCritical ∷ SealCustomValue ∷ MakerCertificate ∷ SealAlgorithm ∷ SealSignedValue ∷ SignedPart ∷ Seal ∷ SigningTime ∷ OriginalDigest ∷ PropertyText ∷ SignedCustomData ∷ SignedCustomItem ∷ SignedCustomId ∷ SignedCustomCritical ∷ SignedCustomValue ∷ SignerCertificate ∷ SignatureAlgorithm ∷ SignatureValue ∷ Stamp ∷ []
-
 -- the test that is computed over them
 inOrder : ℕ → List Field → Bool
 inOrder k [] = true
@@ -74,10 +69,6 @@ in-order k [] t i h f = let z : ⊥ = omega arith in absurd z
 in-order k (x ∷ xs) t zero h f = eqb→eq (code x) k (and-l (eqb (code x) k) (inOrder (suc k) xs) t) ∙ omega arith
 in-order k (x ∷ xs) t (suc i) h f = in-order (suc k) xs (and-r (eqb (code x) k) (inOrder (suc k) xs) t) i (omega arith) f ∙ omega arith
 
-abbrev pub nameOf : ℕ → Field
-nameOf i = getD names i SealInformation
-
--- every number below 43 is a name's
-pub code-name : (i : ℕ) → i < 43 → code (nameOf i) ≡ i
+pub code-name : (i : ℕ) → i < names-count → code (nameOf i) ≡ i
 unfolding inOrder code
 code-name i h = in-order 0 names tt i h SealInformation ∙ omega arith

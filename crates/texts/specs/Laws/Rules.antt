@@ -10,6 +10,7 @@ use lib.Dec.{ltb, eqb}
 use borrow.Author.Tests.{lt-ltb}
 use Rattle.terms.specs.Answer.{enough, same}
 use Rattle.terms.specs.Numbers.{not-es, bad-character, bad-identifier, bad-bits, bad-boolean, no-bytes}
+use Rattle.terms.specs.Laws.Answer.{never}
 use Rattle.contents.specs.Content.{Check, fine, wrong, tag, ask, placeOf}
 use Rattle.contents.specs.Text.{Character, isText, ia5, isIdentifier}
 use Rattle.contents.specs.Rules.{octetsRule, bitsRule, yes-byte, booleanRule, stringRule, identifierRule, also, onlyRule}
@@ -21,13 +22,13 @@ use Rattle.contents.specs.declared.Checked.the-variants.{Fine, Wrong}
 -- a rule that goes before another: its refusal stands, or it is fine
 fault-first : (c d : Check) (p a n q : ℕ) (y : Checked) → y ≡ checked c p a → y ≡ Wrong n q → y ≡ checked (also c d) p a
 unfolding also
-fault-first fine d p a n q y e f = let x : _≡_ {A = ℕ} 0 1 = cc in let f : ⊥ = omega arith in absurd f
+fault-first fine d p a n q y e f = never (cc)
 fault-first (wrong m x) d p a n q y e f = e
 
 fine-first : (c d : Check) (p a : ℕ) (y : Checked) → y ≡ checked c p a → y ≡ Fine → also c d ≡ d
 unfolding also
 fine-first fine d p a y e f = refl
-fine-first (wrong m x) d p a y e f = let x : _≡_ {A = ℕ} 0 1 = cc in let f : ⊥ = omega arith in absurd f
+fine-first (wrong m x) d p a y e f = never (cc)
 
 -- a byte that is needed is there just where the length is not 0
 enough-by : (may : Bool) (w : List ℕ) → enough may w ≡ may || ltb 0 (length w)

@@ -1,6 +1,7 @@
 -- `times::clock_in` reads hour, minute, second and Z at their places, each as the rules do, and stops where one is none.
 use borrow.Author.Needs.{needs}
-use Rattle.times.specs.Laws.Whole.{clockIn, steps}
+use Rattle.times.specs.Time.{clockIn}
+use Rattle.times.specs.Laws.Whole.{steps}
 use Rattle.times.specs.Laws.Parts.{at-most-of}
 use Rattle.times.proofs.clock_in.Statement.{statement}
 use Rattle.times.proofs.clock_in.Tie as tie

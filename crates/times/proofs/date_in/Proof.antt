@@ -1,7 +1,8 @@
 -- `times::date_in` reads year, month and day at their places, each as the rules do, and stops where one is none.
 use borrow.Author.Needs.{needs}
-use Rattle.times.specs.Laws.Whole.{dateIn, steps}
-use Rattle.times.specs.Laws.Parts.{at-most-of}
+use Rattle.times.specs.Time.{dateIn}
+use Rattle.times.specs.Laws.Whole.{steps}
+use Rattle.times.specs.Laws.Parts.{at-most, at-most-of, part-least}
 use Rattle.times.specs.Laws.Months.{month-most}
 use Rattle.times.proofs.date_in.Statement.{statement}
 use Rattle.times.proofs.date_in.Tie as tie
@@ -33,7 +34,7 @@ unfolding dateIn
 returns-2 c = (search (needs, steps) depth 12, tt)
 
 month-length-requires : tie.Need-month-length-requires
-month-length-requires c κs = search needs
+month-length-requires c κs = search (needs, part-least, at-most)
 
 part-at-requires-3 : tie.Need-part-at-requires-3
 part-at-requires-3 c κs = search needs

@@ -2,7 +2,8 @@
 use native.Mathlib.Omega.{arith}
 use borrow.Author.Needs.{needs}
 use Rattle.times.specs.Laws.Parts.{at-most}
-use Rattle.times.specs.Laws.Whole.{timeIn, as-read, steps}
+use Rattle.times.specs.Time.{timeIn}
+use Rattle.times.specs.Laws.Whole.{as-read, steps}
 use Rattle.times.proofs.time_in.Statement.{statement}
 use Rattle.times.proofs.time_in.Tie as tie
 

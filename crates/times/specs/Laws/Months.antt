@@ -4,15 +4,12 @@ use Prim.Native.Nat.{ℕ, suc, zero, _-_, _%_, _≤_, _<_}
 use native.Mathlib.Omega.{arith}
 use mathlib.Core.Bool.{Bool, true, false, _&&_, and-true, and-false}
 use mathlib.Core.List.{List, [], _∷_}
-use lib.ListN.{getD, List·getD-eq-default}
+use lib.ListN.{getD}
 use lib.Dec.{T, leb, eqb, leb→le}
 use borrow.Author.Tests.{eq-eqb, ne-eqb}
 use Rattle.terms.specs.Answer.{pick, every}
 use Rattle.terms.specs.Laws.Answer.{and-l, and-r}
-use Rattle.contents.specs.Time.{leap, monthLength}
-
-abbrev months : List ℕ
-months = 31 ∷ 28 ∷ 31 ∷ 30 ∷ 31 ∷ 30 ∷ 31 ∷ 31 ∷ 30 ∷ 31 ∷ 30 ∷ 31 ∷ []
+use Rattle.contents.specs.Time.{leap, months, monthLength}
 
 module _ (y : ℕ) where
   pub no-leap : (y % 4 ≡ 0 → ⊥) → false ≡ leap y
@@ -38,14 +35,6 @@ module _ (y m : ℕ) {r : Bool} (e : r ≡ leap y && eqb m 2) where
   pub month-long : r ≡ true → 29 ≡ monthLength y m
   unfolding monthLength pick
   month-long h = rw (← e, h)
-
-  pub month-none : r ≡ false → m ≡ 0 → 31 ≡ monthLength y m
-  unfolding monthLength pick
-  month-none h z = rw (← e, h, z)
-
-  pub month-past : r ≡ false → 12 < m → 0 ≡ monthLength y m
-  unfolding monthLength pick
-  month-past h z = rw (← e, h) (sym (List·getD-eq-default months 0 (let k : 12 ≤ m - 1 = omega arith in k)))
 
   pub month-plain : r ≡ false → getD months (m - 1) 0 ≡ monthLength y m
   unfolding monthLength pick

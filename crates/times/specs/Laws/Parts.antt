@@ -11,30 +11,18 @@ use lib.Seq.{drop-cons, drop-drop}
 use lib.Dec.{T, leb, leb→le, ltb→lt, le→leb, lt→ltb, leb·suc-suc}
 use borrow.Author.Tests.{le-leb, lt-leb, not-true, not-false}
 use Rattle.terms.specs.Answer.{Res, good, fault, Got, pick, need}
-use Rattle.terms.specs.Laws.Answer.{test, and-l, and-r, both, is-true, is-false, pick-yes, pick-no}
+use Rattle.terms.specs.Laws.Answer.{never, test, and-l, and-r, both, is-true, is-false, pick-yes, pick-no}
 use Rattle.contents.specs.Time.{possible, isDigit, partFrom}
 use Rattle.times.specs.declared.Parsed.{Parsed}
 use Rattle.times.specs.declared.Parsed.the-variants.{Number, Nothing}
+use Rattle.times.specs.Time.{heard, after, AtMost, firstDigit, inside, partAt}
 
--- ---- what code answers of a reading
-
-unfoldable pub heard : Res (Got ℕ) → Parsed
-heard (good x) = Number (x .value)
-heard (fault n p) = Nothing
-
--- go on with the number
-unfoldable pub after : Parsed → (ℕ → Parsed) → Parsed
-after (Number n) f = f n
-after Nothing f = Nothing
+number-inj : {m n : ℕ} → Number m ≡ Number n → m ≡ n
+number-inj e = cc
 
 -- no number is none
 pub no-number : {X : Type 0} {n : ℕ} → Nothing ≡ Number n → X
-no-number e = let z : _≡_ {A = ℕ} 0 1 = cc in let f : ⊥ = omega arith in absurd f
-
--- a number is at most so much
-abbrev pub AtMost : ℕ → Parsed → Type 0
-AtMost m (Number n) = n ≤ m
-AtMost m Nothing = Unit {0}
+no-number e = never (cc)
 
 pub at-most : {m n : ℕ} {r : Parsed} → AtMost m r → r ≡ Number n → n ≤ m
 at-most h e = rw e at h
@@ -44,26 +32,13 @@ at-most-of {m} {n} {k} {r} h e l = le-trans (at-most h e) l
 
 -- ---- all digits first
 
--- the digit at the front of a window
-unfoldable pub firstDigit : List ℕ → Parsed
-firstDigit [] = Nothing
-firstDigit (d ∷ w) = pick (isDigit d) (Number (d - 0x30)) Nothing
-
 -- `k` digits after the number `n`
 unfoldable pub plain : ℕ → ℕ → List ℕ → Parsed
 plain zero n w = Number n
 plain (suc k) n w = after (firstDigit w) λ d. plain k (n * 10 + d) (drop 1 w)
 
--- a number from `low` to `high`
-unfoldable pub inside : ℕ → ℕ → ℕ → Bool
-inside low high n = leb low n && leb n high
-
 unfoldable pub within : ℕ → ℕ → ℕ → Parsed
 within low high n = pick (inside low high n) (Number n) Nothing
-
--- the part at `i`, as the rules read it
-unfoldable pub partAt : ℕ → ℕ → ℕ → ℕ → List ℕ → Parsed
-partAt k low high i c = heard (partFrom k low high 0 (drop i c) i)
 
 digit-small : (d : ℕ) → T (isDigit d) → d - 0x30 ≤ 9
 unfolding isDigit
@@ -205,6 +180,30 @@ pub not-too-low : (low high n : ℕ) → low ≤ n → leb n high ≡ inside low
 unfolding inside
 not-too-low low high n h = rw (le-leb low n h)
 
-pub inside-most : (low high n : ℕ) {r : Bool} → r ≡ inside low high n → not r ≡ false → n ≤ high
+inside-both : (low high n : ℕ) → inside low high n ≡ true → (low ≤ n) × (n ≤ high)
 unfolding inside
-inside-most low high n {r} e h = leb→le n high (and-r (leb low n) (leb n high) (subst (λ (b : Bool). T b) (sym (sym e ∙ not-false r h)) tt))
+inside-both low high n e =
+    let t : T (leb low n && leb n high) = subst (λ (b : Bool). T b) (sym e) tt in
+    (leb→le low n (and-l (leb low n) (leb n high) t), leb→le n high (and-r (leb low n) (leb n high) t))
+
+module _ (low high n : ℕ) {r : Bool} (e : r ≡ inside low high n) (h : not r ≡ false) where
+  pub inside-least : low ≤ n
+  inside-least = inside-both low high n (sym e ∙ not-false r h) .0
+
+  pub inside-most : n ≤ high
+  inside-most = inside-both low high n (sym e ∙ not-false r h) .1
+
+-- a part that was read is no less than the least
+pub part-least : (k low high i : ℕ) (w : List ℕ) {r : Parsed} {n : ℕ} → low < 10 ^ k → r ≡ partAt k low high i w → r ≡ Number n → low ≤ n
+unfolding after within
+part-least k low high i w {r} {n} s e q = go (plain k 0 (drop i w)) (sym (part-plain k low high i w s) ∙ sym e ∙ q)
+  where
+    read : (m : ℕ) → within low high m ≡ Number n → low ≤ n
+    read m g =
+        test (inside low high m)
+        (λ t. let v : m ≡ n = number-inj (sym (pick-yes (inside low high m) (Number m) Nothing t) ∙ g) in rw (← v) (inside-both low high m (is-true (inside low high m) t) .0))
+        (λ t. no-number (sym (pick-no (inside low high m) (Number m) Nothing t) ∙ g))
+
+    go : (p : Parsed) → after p (within low high) ≡ Number n → low ≤ n
+    go (Number m) g = read m g
+    go Nothing g = no-number g

@@ -16,8 +16,9 @@ use Rattle.contents.specs.Content.{passes}
 use Rattle.contents.specs.Time.{year-digits, monthLength, isDigit, timeFrom, timeRule, written, isReal}
 use Rattle.times.specs.declared.Parsed.{Parsed}
 use Rattle.times.specs.declared.Parsed.the-variants.{Number, Nothing}
-use Rattle.times.specs.Laws.Parts.{after, firstDigit, plain, inside, within, partAt, part-plain, not-too-low}
-use Rattle.times.specs.Laws.Whole.{told, closing, dateIn, clockIn, timeIn, time-in, rule-none, rule-fine}
+use Rattle.times.specs.Time.{after, firstDigit, inside, partAt, told, there, closing, dateIn, clockIn, timeIn}
+use Rattle.times.specs.Laws.Parts.{plain, within, part-plain, not-too-low}
+use Rattle.times.specs.Laws.Whole.{time-in, rule-none, rule-fine}
 
 -- the last `k` digits as characters
 abbrev chars : ℕ → ℕ → List ℕ
@@ -50,11 +51,6 @@ drop-chars zero j n z = let q : 0 + j ≡ j = omega arith in rw q
 drop-chars (suc i) j n z = let q : suc i + j ≡ suc (i + j) = omega arith in rw q (drop-chars i j n z)
 
 -- ---- a part of a number that is written
-
--- a number was read
-unfoldable pub there : Parsed → Bool
-there (Number n) = true
-there Nothing = false
 
 after-written : (n i j : ℕ) → i + j ≡ 14 → drop i (written n) ≡ chars j n ++ (0x5A ∷ [])
 unfolding written

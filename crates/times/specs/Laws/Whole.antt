@@ -17,43 +17,11 @@ use Rattle.contents.specs.declared.Checked.the-variants.{Fine, Wrong}
 use Rattle.contents.specs.Time.{year-digits, monthLength, possible, isDigit, partFrom, zulu, Moment, moment, timeFrom, timeCheck, timeRule, momentIn, momentOf}
 use Rattle.times.specs.declared.Parsed.{Parsed}
 use Rattle.times.specs.declared.Parsed.the-variants.{Number, Nothing}
-use Rattle.times.specs.Laws.Parts.{heard, after, no-number, partAt}
-
--- what code answers of a whole time: its number, or none
-abbrev numberOf : Moment → ℕ
-numberOf (moment n) = n
+use Rattle.times.specs.Time.{heard, after, partAt, numberOf, told, closing, dateIn, clockIn, timeIn}
+use Rattle.times.specs.Laws.Parts.{no-number}
 
 number-back : (m : Moment) → moment (numberOf m) ≡ m
 number-back (moment n) = refl
-
-unfoldable pub told : Res (Got Moment) → Parsed
-told (good x) = Number (numberOf (x .value))
-told (fault n p) = Nothing
-
--- the closing Z at the front of a window
-unfoldable pub closing : List ℕ → Bool
-closing [] = false
-closing (z ∷ w) = eqb z 0x5A
-
-unfoldable pub dateIn : List ℕ → Parsed
-dateIn c =
-    after (partAt 4 0 9999 0 c) λ y.
-    after (partAt 2 1 12 4 c) λ m.
-    after (partAt 2 1 (monthLength y m) 6 c) λ d.
-    Number ((y * 100 + m) * 100 + d)
-
-unfoldable pub clockIn : List ℕ → Parsed
-clockIn c =
-    after (partAt 2 0 23 8 c) λ h.
-    after (partAt 2 0 59 10 c) λ i.
-    after (partAt 2 0 59 12 c) λ s.
-    pick (closing (drop 14 c)) (Number ((h * 100 + i) * 100 + s)) Nothing
-
-unfoldable pub timeIn : List ℕ → Parsed
-timeIn c =
-    after (dateIn c) λ d.
-    after (clockIn c) λ t.
-    Number (d * 1000000 + t)
 
 -- where a part ends
 rest : (k low high n b : ℕ) (w : List ℕ) (x : Got ℕ) → partFrom k low high n w b ≡ good x → (x .rest ≡ drop k w) × (x .after ≡ b + k)
@@ -207,12 +175,12 @@ as-read x c e = e ∙ time-in c
 -- ---- the content of a record
 
 module _ (s w : List ℕ) (a z : ℕ) (cut : w ≡ slice a z s) where
-  pub too-long : (p : ℕ) → 15 < length w → Wrong 10 p ≡ checkedAt timeRule s p a z
+  pub too-long : (p : ℕ) → 15 < length w → Wrong bad-time p ≡ checkedAt timeRule s p a z
   unfolding checkedAt placeOf
   too-long p h = rw (← cut, rule-long w h)
 
   module _ {r : Parsed} (e : r ≡ told (timeFrom year-digits w 0)) where
-    pub no-time : (p : ℕ) → r ≡ Nothing → Wrong 10 p ≡ checkedAt timeRule s p a z
+    pub no-time : (p : ℕ) → r ≡ Nothing → Wrong bad-time p ≡ checkedAt timeRule s p a z
     unfolding checkedAt placeOf
     no-time p q = rw (← cut, rule-none w (sym e ∙ q))
 

@@ -2,7 +2,8 @@
 use mathlib.Core.Path.{_≡_}
 use lib.ListN.{length}
 use borrow.Author.Needs.{needs}
-use Rattle.tables.specs.Table.{inner, layoutOf, membersOf}
+use Rattle.structures.specs.Structure.{rowOf, layoutOf}
+use Rattle.rows.specs.Row.{row-width, membersOf}
 use Rattle.walks.specs.Walk.{rowWalk, listWalk}
 use Rattle.walks.specs.Laws.{size, sizes, sizeOf, from, smaller, item-steps, list-steps, member-steps, row-steps, many-on, row-first, row-next, row-fewer, size-first, chain}
 use Prim.Native.Nat.{ℕ, suc, _-_, _<_, _≤_}
@@ -27,9 +28,9 @@ use Rattle.leaves.proofs.is_content.Reads as is-content-reads
 use Rattle.leaves.proofs.known.Reads as known-reads
 use Rattle.leaves.proofs.past.Reads as past-reads
 use Rattle.places.proofs.note.Reads as note-reads
-use Rattle.tables.proofs.kind_of.Reads as kind-of-reads
-use Rattle.tables.proofs.members_of.Reads as members-of-reads
-use Rattle.tables.proofs.tag_of.Reads as tag-of-reads
+use Rattle.structures.proofs.build_of.Reads as build-of-reads
+use Rattle.rows.proofs.members_of.Reads as members-of-reads
+use Rattle.structures.proofs.tag_of.Reads as tag-of-reads
 use Rattle.walks.proofs.leaf.Reads as leaf-reads
 use Rattle.walks.proofs.list_head.Reads as list-head-reads
 use Rattle.walks.proofs.+item+list+member+row.{statement}
@@ -45,7 +46,7 @@ abbrev μ-member : Measures 2 member-kinds.ps ℕ
 μ-member κs a = sizeOf (a .1 .0)
 
 abbrev μ-row : Measures 2 row-kinds.ps ℕ
-μ-row κs a = suc (sizes (inner (layoutOf (a .1 .0))))
+μ-row κs a = suc (sizes (rowOf (a .1 .0)))
 
 abbrev item-at : ℕ → In 2 item-kinds.ps
 item-at t = and 2 item-kinds.ps (is 2 item-kinds.ps μ-item t) item.Pre
@@ -72,7 +73,7 @@ abbrev row-below : ℕ → In 2 row-kinds.ps
 row-below t = and 2 row-kinds.ps (falls 2 row-kinds.ps _<_ μ-row t) row.Pre
 
 abbrev item-c : ℕ → item-lts.Claims
-item-c t = (kind-of-reads.Asked, kind-of-reads.Learnt, leaf-reads.Asked, leaf-reads.Learnt, past-reads.Asked, past-reads.Learnt, head-reads.Asked, head-reads.Learnt, note-reads.Asked, note-reads.Learnt, row-below t, row.Post, list-head-reads.Asked, list-head-reads.Learnt, list-below t, list.Post, item-below t, item.Post, close-reads.Asked, close-reads.Learnt)
+item-c t = (build-of-reads.Asked, build-of-reads.Learnt, leaf-reads.Asked, leaf-reads.Learnt, past-reads.Asked, past-reads.Learnt, head-reads.Asked, head-reads.Learnt, note-reads.Asked, note-reads.Learnt, row-below t, row.Post, list-head-reads.Asked, list-head-reads.Learnt, list-below t, list.Post, item-below t, item.Post, close-reads.Asked, close-reads.Learnt)
 
 abbrev list-c : ℕ → list-lts.Claims
 list-c t = (item-below t, item.Post)
@@ -83,11 +84,11 @@ member-c t = (known-reads.Asked, known-reads.Learnt, past-reads.Asked, past-read
 abbrev row-c : ℕ → row-lts.Claims
 row-c t = (members-of-reads.Asked, members-of-reads.Learnt, member-below t, member.Post, close-reads.Asked, close-reads.Learnt)
 
-item-kind-of-requires : (t : ℕ) → item-lts.Need-kind-of-requires (item-c t) (item-at t) item.Post
-item-kind-of-requires t c κs = search needs
+item-build-of-requires : (t : ℕ) → item-lts.Need-build-of-requires (item-c t) (item-at t) item.Post
+item-build-of-requires t c κs = search needs
 
-item-enum-known-k : (t : ℕ) → item-lts.Need-enum-known-k (item-c t) (item-at t) item.Post
-item-enum-known-k t c = search needs
+item-enum-known-b : (t : ℕ) → item-lts.Need-enum-known-b (item-c t) (item-at t) item.Post
+item-enum-known-b t c = search needs
 
 item-leaf-requires : (t : ℕ) → item-lts.Need-leaf-requires (item-c t) (item-at t) item.Post
 item-leaf-requires t c κs = search needs
@@ -95,8 +96,8 @@ item-leaf-requires t c κs = search needs
 item-past-requires : (t : ℕ) → item-lts.Need-past-requires (item-c t) (item-at t) item.Post
 item-past-requires t c κs = search needs
 
-item-enum-known-k-2 : (t : ℕ) → item-lts.Need-enum-known-k-2 (item-c t) (item-at t) item.Post
-item-enum-known-k-2 t c = search needs
+item-enum-known-b-2 : (t : ℕ) → item-lts.Need-enum-known-b-2 (item-c t) (item-at t) item.Post
+item-enum-known-b-2 t c = search needs
 
 item-head-requires : (t : ℕ) → item-lts.Need-head-requires (item-c t) (item-at t) item.Post
 item-head-requires t c κs = search needs
@@ -119,8 +120,8 @@ item-note-requires t c κs = search needs
 item-row-requires : (t : ℕ) → item-lts.Need-row-requires (item-c t) (item-at t) item.Post
 item-row-requires t c κs = search (needs, smaller)
 
-item-enum-known-k-3 : (t : ℕ) → item-lts.Need-enum-known-k-3 (item-c t) (item-at t) item.Post
-item-enum-known-k-3 t c = search needs
+item-enum-known-b-3 : (t : ℕ) → item-lts.Need-enum-known-b-3 (item-c t) (item-at t) item.Post
+item-enum-known-b-3 t c = search needs
 
 item-list-head-requires : (t : ℕ) → item-lts.Need-list-head-requires (item-c t) (item-at t) item.Post
 item-list-head-requires t c κs = search needs
@@ -149,8 +150,8 @@ item-enum-known-c-2 t c = search needs
 item-note-requires-2 : (t : ℕ) → item-lts.Need-note-requires-2 (item-c t) (item-at t) item.Post
 item-note-requires-2 t c κs = search needs
 
-item-enum-known-k-4 : (t : ℕ) → item-lts.Need-enum-known-k-4 (item-c t) (item-at t) item.Post
-item-enum-known-k-4 t c = search needs
+item-enum-known-b-4 : (t : ℕ) → item-lts.Need-enum-known-b-4 (item-c t) (item-at t) item.Post
+item-enum-known-b-4 t c = search needs
 
 item-head-requires-2 : (t : ℕ) → item-lts.Need-head-requires-2 (item-c t) (item-at t) item.Post
 item-head-requires-2 t c κs = search needs
@@ -216,10 +217,10 @@ item-returns-9 : (t : ℕ) → item-lts.Need-returns-9 (item-c t) (item-at t) it
 item-returns-9 t c = search (needs, item-steps)
 
 abbrev list-Inv-loop : list-lts.InvT-loop
-list-Inv-loop s x name at end places₀ p₀ k₀ places p k = (k ≤ 64) × (length places ≡ length places₀) × (listWalk (layoutOf x) name 0 s at end places₀ ≡ listWalk (layoutOf x) name k s p end places)
+list-Inv-loop s x most name at end places₀ p₀ k₀ places p k = (k ≤ most) × (length places ≡ length places₀) × (listWalk (layoutOf x) name most 0 s at end places₀ ≡ listWalk (layoutOf x) name most k s p end places)
 
 abbrev list-μ-loop : list-lts.MeasureT-loop
-list-μ-loop s x name at end places₀ p₀ k₀ places p k = 64 - k
+list-μ-loop s x most name at end places₀ p₀ k₀ places p k = most - k
 
 list-loop-holds :
     (t : ℕ) →
@@ -440,10 +441,10 @@ member-returns-11 : (t : ℕ) → member-lts.Need-returns-11 (member-c t) (membe
 member-returns-11 t c = search (needs, member-steps)
 
 abbrev row-Inv-loop : row-lts.InvT-loop
-row-Inv-loop s index at end places₀ members p₀ k₀ places p k = (k ≤ 6) × (length members ≡ 6) × (length places ≡ length places₀) × (sizes (from k members) ≤ sizes (membersOf members)) × (rowWalk (membersOf members) index s at end places₀ ≡ rowWalk (from k members) index s p end places)
+row-Inv-loop s index at end places₀ members p₀ k₀ places p k = (k ≤ row-width) × (length members ≡ row-width) × (length places ≡ length places₀) × (sizes (from k members) ≤ sizes (membersOf members)) × (rowWalk (membersOf members) index s at end places₀ ≡ rowWalk (from k members) index s p end places)
 
 abbrev row-μ-loop : row-lts.MeasureT-loop
-row-μ-loop s index at end places₀ members p₀ k₀ places p k = 6 - k
+row-μ-loop s index at end places₀ members p₀ k₀ places p k = row-width - k
 
 row-members-of-requires : (t : ℕ) → row-lts.Need-members-of-requires (row-c t) (row-at t) row.Post row-Inv-loop row-μ-loop
 row-members-of-requires t c κs = search needs
@@ -494,11 +495,11 @@ pub +item+list+member+row-spec : {M : Type 1} → statement M
 +item+list+member+row-spec = close μ-item μ-list μ-member μ-row (λ t. item-lts.spec (item-c t)
     (item-at t)
     item.Post
-    (item-kind-of-requires t)
-    (item-enum-known-k t)
+    (item-build-of-requires t)
+    (item-enum-known-b t)
     (item-leaf-requires t)
     (item-past-requires t)
-    (item-enum-known-k-2 t)
+    (item-enum-known-b-2 t)
     (item-head-requires t)
     (item-enum-known-h t)
     (item-enum-told t)
@@ -506,7 +507,7 @@ pub +item+list+member+row-spec : {M : Type 1} → statement M
     (item-returns t)
     (item-note-requires t)
     (item-row-requires t)
-    (item-enum-known-k-3 t)
+    (item-enum-known-b-3 t)
     (item-list-head-requires t)
     (item-enum-known-h-2 t)
     (item-enum-told-2 t)
@@ -516,7 +517,7 @@ pub +item+list+member+row-spec : {M : Type 1} → statement M
     (item-enum-known-c t)
     (item-enum-known-c-2 t)
     (item-note-requires-2 t)
-    (item-enum-known-k-4 t)
+    (item-enum-known-b-4 t)
     (item-head-requires-2 t)
     (item-enum-known-h-3 t)
     (item-enum-told-3 t)

@@ -1,0 +1,37 @@
+-- What the names of the code's primitive items stand for. Assumes nothing.
+use Prim.Native.Nat.{ℕ}
+use mathlib.Core.Bool.{Bool}
+use mathlib.Core.List.{List}
+use Rattle.terms.specs.Answer.{may-be-empty, never-empty}
+use Rattle.contents.specs.Content.{Leaf}
+use Rattle.contents.specs.Integer.{any, isKind, saysKind1, isMillimetres}
+use Rattle.contents.specs.Leaves as leaves
+use Rattle.primitives.specs.declared.Primitive.{Primitive}
+use Rattle.primitives.specs.declared.Primitive.the-variants.{Octets, AnyOctets, Bits, Ia5, AnyIa5, AnyPrintable, AnyUtf8, Identifier, Time, Integer, ListKind, Millimetres, Critical}
+use Rattle.primitives.specs.declared.Word.{Word}
+use Rattle.primitives.specs.declared.Word.the-variants.{HeaderName, Version}
+use Rattle.primitives.specs.declared.Content.{Content}
+use Rattle.primitives.specs.declared.Content.the-variants.{Kind1}
+
+abbrev pub leafOf : Primitive → Leaf
+leafOf Octets = leaves.octetString never-empty
+leafOf AnyOctets = leaves.octetString may-be-empty
+leafOf Bits = leaves.bitString
+leafOf Ia5 = leaves.ia5String never-empty
+leafOf AnyIa5 = leaves.ia5String may-be-empty
+leafOf AnyPrintable = leaves.printableString may-be-empty
+leafOf AnyUtf8 = leaves.utf8String may-be-empty
+leafOf Identifier = leaves.identifier
+leafOf Time = leaves.generalizedTime
+leafOf Integer = leaves.integer any
+leafOf ListKind = leaves.integer isKind
+leafOf Millimetres = leaves.integer isMillimetres
+leafOf Critical = leaves.boolean
+
+abbrev pub knownOf : Word → leaves.Known
+knownOf HeaderName = leaves.headerName
+knownOf Version = leaves.version
+
+-- whether a content is the one that is named
+abbrev pub says : Content → List ℕ → Bool
+says Kind1 = saysKind1

@@ -1,0 +1,76 @@
+// The primitive items of the rules by name: what each holds, its tag, and what of it is never handed out.
+use items::Tag;
+ghost use mathlib.Core.Path.{_≡_};
+ghost use Prim.Native.Nat.{_≤_};
+ghost use Rattle.items.specs.Scan.{tagByte};
+ghost use Rattle.primitives.specs.Primitive.{leafOf};
+
+// What a primitive item holds; `Any`: it may have no bytes.
+pub enum Primitive {
+    Octets,
+    AnyOctets,
+    Bits,
+    Ia5,
+    AnyIa5,
+    AnyPrintable,
+    AnyUtf8,
+    Identifier,
+    Time,
+    Integer,
+    ListKind,
+    Millimetres,
+    Critical,
+}
+
+// A member whose content is known: the header's name and the version.
+pub enum Word {
+    HeaderName,
+    Version,
+}
+
+// A content that decides between two items: of the list kind, 1.
+pub enum Content {
+    Kind1,
+}
+
+// The tag of a primitive item.
+pub fn tag_of(p: Primitive) -> Tag
+    ensures { λ r. ⌜ tagByte r ≡ leafOf p .tag ⌝ }
+{
+    match p {
+        Primitive::Octets => Tag::OctetString,
+        Primitive::AnyOctets => Tag::OctetString,
+        Primitive::Bits => Tag::BitString,
+        Primitive::Ia5 => Tag::Ia5String,
+        Primitive::AnyIa5 => Tag::Ia5String,
+        Primitive::AnyPrintable => Tag::PrintableString,
+        Primitive::AnyUtf8 => Tag::Utf8String,
+        Primitive::Identifier => Tag::Identifier,
+        Primitive::Time => Tag::Time,
+        Primitive::Integer => Tag::Integer,
+        Primitive::ListKind => Tag::Integer,
+        Primitive::Millimetres => Tag::Integer,
+        Primitive::Critical => Tag::Boolean,
+    }
+}
+
+// How many bytes of a primitive item are never handed out: the first of a bit string.
+pub fn hidden_of(p: Primitive) -> usize
+    ensures { λ r. ⌜ (r ≡ leafOf p .hidden) × (r ≤ 1) ⌝ }
+{
+    match p {
+        Primitive::Octets => 0,
+        Primitive::AnyOctets => 0,
+        Primitive::Bits => 1,
+        Primitive::Ia5 => 0,
+        Primitive::AnyIa5 => 0,
+        Primitive::AnyPrintable => 0,
+        Primitive::AnyUtf8 => 0,
+        Primitive::Identifier => 0,
+        Primitive::Time => 0,
+        Primitive::Integer => 0,
+        Primitive::ListKind => 0,
+        Primitive::Millimetres => 0,
+        Primitive::Critical => 0,
+    }
+}
