@@ -3,12 +3,13 @@ use heads::Step;
 use layouts::Outcome;
 use places::TABLE_SIZE;
 use structures::Row;
+use terms::LARGEST_RECORD;
 ghost use mathlib.Core.Path.{_≡_};
 ghost use lib.ListN.{replicate};
 ghost use Rattle.layouts.specs.Places.{table-size, Placed};
-ghost use Rattle.layouts.specs.Whole.{toldOutcome};
+ghost use Rattle.layouts.specs.Whole.{accept, toldOutcome};
 ghost use Rattle.records.specs.Record.{seal, signature};
-ghost use Rattle.records.specs.Handing.{recordAnswer, fieldsIn};
+ghost use Rattle.records.specs.Handing.{toldRecord, recordAnswer, fieldsOf, fieldsIn};
 ghost use Rattle.structures.specs.Structure.{rowOf};
 ghost use Rattle.readers.specs.Outcome.{outcomeOf};
 
@@ -38,13 +39,13 @@ fn refused(x: Step) -> Reading
     }
 }
 
-// A record that is the whole input: 5 if bytes are left over.
-fn whole(s: &[u8], x: Row) -> Reading
-    ensures { λ r. ⌜ toldOutcome (r .outcome) ≡ recordAnswer (rowOf x) (now (s .entry)) ⌝ }
-    ensures { λ r. ⌜ Placed (fieldsIn (rowOf x) (now (s .entry))) (r .places) ⌝ }
+// A record of at most `most` bytes that is the whole input: 5 if bytes are left over.
+pub fn read(s: &[u8], x: Row, most: usize) -> Reading
+    ensures { λ r. ⌜ toldOutcome (r .outcome) ≡ toldRecord most (rowOf x) (now (s .entry)) ⌝ }
+    ensures { λ r. ⌜ Placed (fieldsOf (rowOf x) (accept most (rowOf x) (now (s .entry)))) (r .places) ⌝ }
 {
     let mut places = [0usize; TABLE_SIZE];
-    let r = walks::record(s, x, 0, s.len(), &mut places);
+    let r = walks::record(s, x, most, 0, s.len(), &mut places);
     let Step::Next(q) = r else {
         return refused(r);
     };
@@ -63,7 +64,7 @@ pub fn read_seal(s: &[u8]) -> Reading
     ensures { λ r. ⌜ toldOutcome (r .outcome) ≡ recordAnswer seal (now (s .entry)) ⌝ }
     ensures { λ r. ⌜ Placed (fieldsIn seal (now (s .entry))) (r .places) ⌝ }
 {
-    whole(s, Row::Seal)
+    read(s, Row::Seal, LARGEST_RECORD)
 }
 
 // A signature record: its length, or the number and place of the first refusal; and where its fields stand.
@@ -71,5 +72,5 @@ pub fn read_signature(s: &[u8]) -> Reading
     ensures { λ r. ⌜ toldOutcome (r .outcome) ≡ recordAnswer signature (now (s .entry)) ⌝ }
     ensures { λ r. ⌜ Placed (fieldsIn signature (now (s .entry))) (r .places) ⌝ }
 {
-    whole(s, Row::Signature)
+    read(s, Row::Signature, LARGEST_RECORD)
 }

@@ -25,12 +25,16 @@ use Rattle.records.specs.declared.Items.the-variants.{Count, Absent as N
 
 -- ---- whole records
 
+-- what is told of a record of at most `most` bytes: "ACCEPTED and its length, or REFUSED, number, place"
+abbrev pub toldRecord : ℕ → Members → List ℕ → Told
+toldRecord most r w = answered (λ v. length w) (accept most r w)
+
+-- "A record has at most 65,535 bytes, header included."
 abbrev pub readRecord : (r : Members) → List ℕ → Res (Values r)
 readRecord r w = accept largest-record r w
 
--- "ACCEPTED and its length, or REFUSED, number, place"
 unfoldable pub recordAnswer : Members → List ℕ → Told
-recordAnswer r w = answered (λ v. length w) (readRecord r w)
+recordAnswer r w = toldRecord largest-record r w
 
 -- what is filled from a record, and written from a sheet, into a destination of `room` bytes
 abbrev pub fillFrom : Members → List ℕ → ℕ → Res (List ℕ)

@@ -11,7 +11,7 @@ use lib.Seq.{slice, drop-cons, drop-nil}
 use lib.Dec.{ltb}
 use borrow.Author.Tests.{lt-ltb, le-ltb}
 use Rattle.terms.specs.declared.Field.{Field}
-use Rattle.terms.specs.Numbers.{no-item, too-many-items, largest-record}
+use Rattle.terms.specs.Numbers.{no-item, too-many-items}
 use Rattle.terms.specs.Answer.{Res, good, fault, pick}
 use Rattle.terms.specs.Laws.Answer.{never}
 use Rattle.heads.specs.Head.{Cut, head, tlv, before}
@@ -463,12 +463,12 @@ module _ (i : Item) (f : Field) (n : ℕ) (s : List ℕ) (e k p : ℕ) (d : List
 
 -- ---- a record
 
-module _ (r : Members) (s : List ℕ) (p e : ℕ) (d : List ℕ) (h : Seen) (j : h ≡ outermostAt largest-record sequence s p e) where
-  pub record-refused : (n q : ℕ) (y : Step) → h ≡ Bad n q → y ≡ pastOf h → (y, d) ≡ recordWalk r s p e d
+module _ (most : ℕ) (r : Members) (s : List ℕ) (p e : ℕ) (d : List ℕ) (h : Seen) (j : h ≡ outermostAt most sequence s p e) where
+  pub record-refused : (n q : ℕ) (y : Step) → h ≡ Bad n q → y ≡ pastOf h → (y, d) ≡ recordWalk most r s p e d
   unfolding recordWalk recordScan recordMarks
   record-refused n q y b g = both (rw (← j, b) (g ∙ ap pastOf b)) (rw (← j, b))
 
-  pub record-row : (a z : ℕ) (y : Step) (d′ : List ℕ) → h ≡ At a z → (y, d′) ≡ rowWalk r 0 s a z d → (y, d′) ≡ recordWalk r s p e d
+  pub record-row : (a z : ℕ) (y : Step) (d′ : List ℕ) → h ≡ At a z → (y, d′) ≡ rowWalk r 0 s a z d → (y, d′) ≡ recordWalk most r s p e d
   unfolding recordWalk rowWalk recordScan recordMarks
   record-row a z y d′ b g = both (rw (← j, b) (answers g)) (rw (← j, b) (tables g))
 

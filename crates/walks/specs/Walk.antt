@@ -5,7 +5,7 @@ use mathlib.Core.Bool.{Bool, _||_}
 use mathlib.Core.List.{List}
 use lib.Dec.{ltb}
 use Rattle.terms.specs.declared.Field.{Field}
-use Rattle.terms.specs.Numbers.{no-item, largest-record}
+use Rattle.terms.specs.Numbers.{no-item}
 use Rattle.terms.specs.Answer.{pick}
 use Rattle.heads.specs.Scan.{headAt}
 use Rattle.heads.specs.declared.Seen.{Seen}
@@ -53,5 +53,6 @@ listWalk i f n k s p e d = (
   manyMarks (λ q. scan i s q e) (λ j q x. marks i f j s q e x) (n - k) k p e d,
 )
 
-unfoldable pub recordWalk : Members → List ℕ → ℕ → ℕ → List ℕ → Step × List ℕ
-recordWalk r s p e d = (recordScan largest-record r s p e, recordMarks largest-record r s p e d)
+-- a record of at most `most` bytes
+unfoldable pub recordWalk : ℕ → Members → List ℕ → ℕ → ℕ → List ℕ → Step × List ℕ
+recordWalk most r s p e d = (recordScan most r s p e, recordMarks most r s p e d)

@@ -10,7 +10,6 @@ use structures::Build;
 use structures::Row;
 use structures::Structure;
 use terms::Field;
-use terms::LARGEST_RECORD;
 use terms::NO_ITEM;
 use terms::TOO_MANY_ITEMS;
 ghost use mathlib.Core.Path.{_≡_};
@@ -206,12 +205,12 @@ fn list(
     Tally::Items(k)
 }
 
-// A record at a position, whatever follows it: where it ends, or the first refusal in it. The fields that it passes are noted, also
-// those before a refusal.
-pub fn record(s: &[u8], x: Row, at: usize, end: usize, places: &mut [usize]) -> Step
-    ensures { λ r. ⌜ (r, now (places .exit)) ≡ recordWalk (rowOf x) (now (s .entry)) at end (now (places .entry)) ⌝ }
+// A record of at most `most` bytes at a position, whatever follows it: where it ends, or the first refusal in it. The fields that it
+// passes are noted, also those before a refusal.
+pub fn record(s: &[u8], x: Row, most: usize, at: usize, end: usize, places: &mut [usize]) -> Step
+    ensures { λ r. ⌜ (r, now (places .exit)) ≡ recordWalk most (rowOf x) (now (s .entry)) at end (now (places .entry)) ⌝ }
 {
-    let h = items::outermost(s, LARGEST_RECORD, Tag::Sequence, at, end);
+    let h = items::outermost(s, most, Tag::Sequence, at, end);
     let Seen::Item(a, z) = h else {
         return leaves::past(h);
     };

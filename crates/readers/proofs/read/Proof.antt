@@ -1,8 +1,8 @@
--- `readers::whole`: the record, then nothing after it.
+-- `readers::read`: the record, then nothing after it.
 use Rattle.readers.specs.Laws.{whole-refused, places-refused, whole-close, places-left, places-whole}
 use borrow.Author.Needs.{needs}
-use Rattle.readers.proofs.whole.Statement.{statement}
-use Rattle.readers.proofs.whole.Tie as tie
+use Rattle.readers.proofs.read.Statement.{statement}
+use Rattle.readers.proofs.read.Tie as tie
 
 slice-aggregate-record : tie.Need-slice-aggregate-record
 slice-aggregate-record c = search needs
@@ -43,8 +43,8 @@ outcome-requires c κs = search needs
 returns-3 : tie.Need-returns-3
 returns-3 c = (search (needs, whole-close), search (needs, places-whole))
 
-pub whole-spec : {M : Type 1} → statement M
-whole-spec =
+pub read-spec : {M : Type 1} → statement M
+read-spec =
     tie.close
     (tie.spec
     slice-aggregate-record
