@@ -20,7 +20,7 @@ use Rattle.layouts.specs.Layout.{Item, leaf, node, list, wrap, Members, 
 use Rattle.layouts.specs.Whole.{sequence}
 use Rattle.layouts.specs.Scan.{leafAt, beginsAt, scan, scanPart}
 use Rattle.layouts.specs.Fields.{Entry}
-use Rattle.layouts.specs.Places.{slot}
+use Rattle.layouts.specs.Places.{slot, wanted}
 use Rattle.layouts.specs.declared.Tally.{Tally}
 use Rattle.layouts.specs.declared.Tally.the-variants.{Items, Refused as Uncounted}
 
@@ -31,9 +31,9 @@ free d n = ltb (n + 3) (length d) && eqb (getD d n 0) 0
 abbrev pub filled : List ℕ → ℕ → ℕ → ℕ → ℕ → List ℕ
 filled d n a l i = set (set (set (set d n 1) (n + 1) a) (n + 2) l) (n + 3) i
 
--- a field that starts at `a` and ends before `z` is noted under its name, once, and of a list's fields those of the first item
+-- a field that starts at `a` and ends before `z` is noted under its name, once, if its index is the one that is wanted
 unfoldable pub noted : Field → ℕ → ℕ → ℕ → ℕ → List ℕ → List ℕ
-noted f k a z n d = pick (eqb k 0 && free d (slot f)) (filled d (slot f) a (z - a) n) d
+noted f k a z n d = pick (eqb k (wanted d) && free d (slot f)) (filled d (slot f) a (z - a) n) d
 
 unfoldable pub notes : List Entry → List ℕ → List ℕ
 notes [] d = d

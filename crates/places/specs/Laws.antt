@@ -5,14 +5,14 @@ use native.Mathlib.Omega.{arith}
 use mathlib.Core.Bool.{Bool, true, false, _&&_, not}
 use mathlib.Core.List.{List, [], _∷_}
 use lib.ListN.{length, getD, drop, List·getD-eq-default}
-use lib.Dec.{eqb, ltb, ltb→lt}
-use borrow.Author.Tests.{ne-eqb, lt-ltb, le-ltb}
+use lib.Dec.{T, eqb, ltb, ltb→lt}
+use borrow.Author.Tests.{eq-eqb, ne-eqb, lt-ltb, le-ltb}
 use Rattle.terms.specs.declared.Field.{Field}
 use Rattle.terms.specs.Names.{code, names-count, nameOf}
 use Rattle.terms.specs.Laws.Names.{code-name}
 use Rattle.terms.specs.Answer.{pick}
-use Rattle.terms.specs.Laws.Answer.{never}
-use Rattle.layouts.specs.Places.{under, slot}
+use Rattle.terms.specs.Laws.Answer.{and-l, and-r}
+use Rattle.layouts.specs.Places.{wanted-at, wanted, under, slot}
 use Rattle.layouts.specs.Marks.{free, filled, noted}
 
 -- a name is numbered by its place among the names
@@ -22,28 +22,31 @@ slot-name f n r h k q = q ∙ ap (λ (z : ℕ). 4 * z) (sym (ap code h ∙ code-
 
 -- ---- noting a field
 
-module _ (f : Field) (k a z i : ℕ) (d : List ℕ) where
-  pub noted-later : (k ≡ 0 → ⊥) → d ≡ noted f k a z i d
+module _ (d : List ℕ) (n k x : ℕ) (e : x ≡ getD d wanted-at 0) where
+  pub unwanted : (k ≡ x → ⊥) → false ≡ eqb k (wanted d) && free d n
+  unfolding wanted
+  unwanted h = rw (← e, ne-eqb k x h)
+
+  pub if-free : (b : Bool) → k ≡ x → b ≡ free d n → b ≡ eqb k (wanted d) && free d n
+  unfolding wanted
+  if-free b h f = rw (← e, eq-eqb k x h) f
+
+module _ (f : Field) (k a z i : ℕ) (d : List ℕ) (n : ℕ) (b : Bool) (q : n ≡ slot f) (e : b ≡ eqb k (wanted d) && free d n) where
+  pub noted-held : b ≡ false → d ≡ noted f k a z i d
   unfolding noted pick
-  noted-later h = rw (ne-eqb k 0 h)
+  noted-held g = rw (← q, ← e, g)
 
-  module _ (n : ℕ) (b : Bool) (h : k ≡ 0) (q : n ≡ slot f) (e : b ≡ free d n) where
-    pub noted-taken : b ≡ false → d ≡ noted f k a z i d
-    unfolding noted pick
-    noted-taken g = rw (h, ← q, ← e, g)
+  pub noted-free : (x : List ℕ) (l : ℕ) → b ≡ true → l ≡ z - a → x ≡ filled d n a l i → x ≡ noted f k a z i d
+  unfolding noted pick
+  noted-free x l g m y = rw (← q, ← e, g, ← m) y
 
-    pub noted-free : (x : List ℕ) (l : ℕ) → b ≡ true → l ≡ z - a → x ≡ filled d n a l i → x ≡ noted f k a z i d
-    unfolding noted pick
-    noted-free x l g m y = rw (h, ← q, ← e, g, ← m) y
-
--- what is free lies in the table, each of the four numbers
-pub free-in : (d : List ℕ) (n : ℕ) (b : Bool) (j : ℕ) → b ≡ free d n → b ≡ true → j ≤ 3 → n + j < length d
+-- what is taken lies in the table, each of the four numbers
+pub takes-in : (d : List ℕ) (n k : ℕ) (b : Bool) (j : ℕ) → b ≡ eqb k (wanted d) && free d n → b ≡ true → j ≤ 3 → n + j < length d
 unfolding free
-free-in d n b j e g h = go (ltb (n + 3) (length d)) _ refl (sym e ∙ g)
-  where
-    go : (x y : Bool) → ltb (n + 3) (length d) ≡ x → x && y ≡ true → n + j < length d
-    go true y q k = let l : n + 3 < length d = ltb→lt (n + 3) (length d) (rw q tt) in omega arith
-    go false y q k = never (cc)
+takes-in d n k b j e g h =
+    let t : T (eqb k (wanted d) && free d n) = rw (← e, g) tt in
+    let l = ltb→lt (n + 3) (length d) (and-l (ltb (n + 3) (length d)) (eqb (getD d n 0) 0) (and-r (eqb k (wanted d)) (free d n) t)) in
+    omega arith
 
 pub free-no : (d : List ℕ) (n : ℕ) → length d ≤ n + 3 → false ≡ free d n
 unfolding free

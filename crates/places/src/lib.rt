@@ -1,21 +1,26 @@
-// The table of places: under each name whether the field is there, where it starts, how many bytes it has, and of a list how many items.
+// The table of places: under each name whether the field is there, where it starts, how many bytes it has, and of a list how many items;
+// after them the index of the item that is wanted of a list.
 use terms::Field;
 use terms::NAMES;
 ghost use mathlib.Core.Path.{_≡_};
 ghost use Prim.Native.Nat.{_+_, _-_, _<_};
-ghost use mathlib.Core.Bool.{not};
+ghost use mathlib.Core.Bool.{not, _&&_};
 ghost use mathlib.Core.List.{[], _∷_};
 ghost use lib.ListN.{getD, drop, length as size};
 ghost use lib.Dec.{eqb};
-ghost use Rattle.layouts.specs.Places.{table-size, slot, under as numbersUnder};
+ghost use Rattle.layouts.specs.Places.{table-size, wanted, slot, under as numbersUnder};
+ghost use Rattle.layouts.specs.Laws.Places.{blank as blankTable};
 ghost use Rattle.layouts.specs.Marks.{free, filled, noted};
 ghost use Rattle.terms.specs.Names.{names-count, nameOf};
 
 // The numbers under a name.
 const NUMBERS_EACH: usize = 4;
 
+// Where the index that is wanted stands, behind the numbers under the names.
+const WANTED_AT: usize = NUMBERS_EACH * NAMES;
+
 // The numbers of a table.
-pub const TABLE_SIZE: usize = NUMBERS_EACH * NAMES;
+pub const TABLE_SIZE: usize = WANTED_AT + 1;
 
 // What stands under a name.
 pub struct Place {
@@ -116,15 +121,32 @@ fn fill(places: &mut [usize], n: usize, start: usize, length: usize, items: usiz
     places[n + 3] = items;
 }
 
-// Notes a field under its name, once, if the table has room for it; of a list's fields those of the first item alone.
+// A table in which nothing is noted yet.
+pub fn blank(index: usize) -> [usize; TABLE_SIZE]
+    ensures { λ r. ⌜ r ≡ blankTable index ⌝ }
+{
+    let mut places = [0usize; TABLE_SIZE];
+    places[WANTED_AT] = index;
+    places
+}
+
+// Whether a field of an index is to be noted in four numbers: it is wanted, and they are free.
+fn takes(places: &[usize], n: usize, index: usize) -> bool
+    requires { ⌜ n < table-size ⌝ }
+    ensures { λ r. ⌜ r ≡ eqb index (wanted (now (places .entry))) && free (now (places .entry)) n ⌝ }
+{
+    if index != number_at(places, WANTED_AT) {
+        return false;
+    }
+    is_free(places, n)
+}
+
+// Notes a field under its name, once, if its index is wanted and the table has room for it.
 pub fn note(places: &mut [usize], f: Field, index: usize, start: usize, end: usize, items: usize)
     ensures { λ _. ⌜ now (places .exit) ≡ noted f index start end items (now (places .entry)) ⌝ }
 {
-    if index != 0 {
-        return;
-    }
     let n = slot_of(f);
-    if !is_free(places, n) {
+    if !takes(places, n, index) {
         return;
     }
     fill(places, n, start, distance(start, end), items);

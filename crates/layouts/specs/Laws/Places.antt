@@ -6,16 +6,16 @@ use native.Mathlib.Omega.{arith}
 use mathlib.Core.Bool.{Bool, not, _&&_}
 use mathlib.Core.Option.{none, some}
 use mathlib.Core.List.{List, [], _∷_, _++_}
-use lib.ListN.{length, getD, set, take, drop, replicate, length-append, length-replicate, getD-replicate, List·getD-append}
-use lib.Seq.{sets, sets-eq, length-sets, length-take-le, getD-set-other, getD-append-add, ext-getD}
-use lib.Dec.{T, eqb, ltb, T-not, eqb→eq, ltb→lt, lt→ltb}
+use lib.ListN.{length, getD, set, take, drop, replicate, length-append, length-replicate, length-set, getD-replicate, List·getD-append}
+use lib.Seq.{sets, sets-eq, length-sets, length-take-le, getD-set-same, getD-set-other, getD-append-add, ext-getD}
+use lib.Dec.{T, eqb, ltb, T-not, eqb→eq, ltb→lt, nltb→le, lt→ltb}
 use borrow.Author.Tests.{eq-eqb}
 use Rattle.terms.specs.declared.Field.{Field}
 use Rattle.terms.specs.Names.{code, nameOf, sameName}
 use Rattle.terms.specs.Laws.Names.{code-below, code-name}
 use Rattle.terms.specs.Laws.Answer.{test, and-l, and-r, both, pick-yes, pick-no}
 use Rattle.layouts.specs.Fields.{Entry, isField, first}
-use Rattle.layouts.specs.Places.{table-size, slot, under, numbersOf, Placed}
+use Rattle.layouts.specs.Places.{table-size, wanted-at, wanted, slot, under, numbersOf, Placed}
 use Rattle.layouts.specs.Marks.{free, noted, notes}
 
 -- ---- a run of stores
@@ -61,18 +61,18 @@ noting x d = noted (x .name) (x .index) (x .place) (x .place + length (x .bytes)
 
 -- the test that decides whether it is noted
 abbrev isNoted : Entry → List ℕ → Bool
-isNoted x d = eqb (x .index) 0 && free d (slot (x .name))
+isNoted x d = eqb (x .index) (wanted d) && free d (slot (x .name))
 
 -- what that test says
-noted-is : (x : Entry) (d : List ℕ) → T (isNoted x d) → (x .index ≡ 0) × (slot (x .name) + 3 < length d) × (getD d (slot (x .name)) 0 ≡ 0)
+noted-is : (x : Entry) (d : List ℕ) → T (isNoted x d) → (x .index ≡ wanted d) × (slot (x .name) + 3 < length d) × (getD d (slot (x .name)) 0 ≡ 0)
 unfolding free
 noted-is x d t =
-    let t′ = and-r (eqb (x .index) 0) _ t in
-    (eqb→eq (x .index) 0 (and-l (eqb (x .index) 0) _ t), ltb→lt (slot (x .name) + 3) (length d) (and-l (ltb (slot (x .name) + 3) (length d)) _ t′), eqb→eq (getD d (slot (x .name)) 0) 0 (and-r (ltb (slot (x .name) + 3) (length d)) _ t′))
+    let t′ = and-r (eqb (x .index) (wanted d)) _ t in
+    (eqb→eq (x .index) (wanted d) (and-l (eqb (x .index) (wanted d)) _ t), ltb→lt (slot (x .name) + 3) (length d) (and-l (ltb (slot (x .name) + 3) (length d)) _ t′), eqb→eq (getD d (slot (x .name)) 0) 0 (and-r (ltb (slot (x .name) + 3) (length d)) _ t′))
 
-noted-so : (x : Entry) (d : List ℕ) → x .index ≡ 0 → slot (x .name) + 3 < length d → getD d (slot (x .name)) 0 ≡ 0 → T (isNoted x d)
+noted-so : (x : Entry) (d : List ℕ) → x .index ≡ wanted d → slot (x .name) + 3 < length d → getD d (slot (x .name)) 0 ≡ 0 → T (isNoted x d)
 unfolding free
-noted-so x d i b z = both (eqb (x .index) 0) _ (rw i tt) (both (ltb (slot (x .name) + 3) (length d)) _ (lt→ltb _ _ b) (rw z tt))
+noted-so x d i b z = both (eqb (x .index) (wanted d)) _ (rw (eq-eqb (x .index) (wanted d) i) tt) (both (ltb (slot (x .name) + 3) (length d)) _ (lt→ltb _ _ b) (rw z tt))
 
 -- a field that is noted is stored in four numbers
 noted-free : (x : Entry) (d : List ℕ) → T (isNoted x d) → noting x d ≡ sets d (slot (x .name)) (numbersOf (some x))
@@ -94,6 +94,15 @@ length-noted : (x : Entry) (d : List ℕ) → length (noting x d) ≡ length d
 length-noted x d =
     test (isNoted x d)
     (λ t. rw (noted-free x d t) (length-sets d (slot (x .name)) (numbersOf (some x))))
+    (λ t. rw (noted-held x d t))
+
+-- and the index that is wanted
+wanted-noted : (x : Entry) (d : List ℕ) → wanted (noting x d) ≡ wanted d
+unfolding slot wanted
+wanted-noted x d =
+    let c = code-below (x .name) in
+    test (isNoted x d)
+    (λ t. rw (noted-free x d t) (sets-other (numbersOf (some x)) d (slot (x .name)) wanted-at (λ j k q. omega arith)))
     (λ t. rw (noted-held x d t))
 
 module _ (f : Field) where
@@ -119,16 +128,16 @@ module _ (f : Field) where
       let b = noted-is x d t in
       rw (noted-free x d t, s) (under-is f (sets d (slot f) (numbersOf (some x))) (numbersOf (some x)) refl λ j c. sets-here (numbersOf (some x)) d (slot f) j (omega arith) c)
 
-  -- a field that is asked for has the name's number and the index 0
-  field-is : (x : Entry) → T (isField f 0 x) → (code f ≡ code (x .name)) × (x .index ≡ 0)
+  -- a field that is asked for has the name's number and the index
+  field-is : (k : ℕ) (x : Entry) → T (isField f k x) → (code f ≡ code (x .name)) × (x .index ≡ k)
   unfolding isField sameName
-  field-is x t =
-      (eqb→eq (code f) (code (x .name)) (and-l (eqb (code f) (code (x .name))) _ t), sym (eqb→eq 0 (x .index) (and-r (eqb (code f) (code (x .name))) _ t)))
+  field-is k x t =
+      (eqb→eq (code f) (code (x .name)) (and-l (eqb (code f) (code (x .name))) _ t), sym (eqb→eq k (x .index) (and-r (eqb (code f) (code (x .name))) _ t)))
 
   -- and one that has them is asked for
-  is-field : (x : Entry) → code f ≡ code (x .name) → x .index ≡ 0 → T (isField f 0 x)
+  is-field : (k : ℕ) (x : Entry) → code f ≡ code (x .name) → x .index ≡ k → T (isField f k x)
   unfolding isField sameName
-  is-field x e i = rw (eq-eqb (code f) (code (x .name)) e, i) tt
+  is-field k x e i = rw (eq-eqb (code f) (code (x .name)) e, eq-eqb k (x .index) (sym i)) tt
 
   -- ---- a list of fields
 
@@ -140,37 +149,54 @@ module _ (f : Field) where
       let u = noted-past x d λ e t. let z : getD d (slot f) 0 ≡ 0 = rw (← slot-alike (x .name) e) (noted-is x d t .2) in omega arith in
       kept xs (noting x d) (first-is f (noting x d) (under f d) u ∙ h) ∙ u
 
-  -- under a name that is empty the first field of that name comes to stand
-  found : (xs : List Entry) (d : List ℕ) → length d ≡ table-size → under f d ≡ numbersOf none → under f (notes xs d) ≡ numbersOf (first (isField f 0) xs)
+  -- under a name that is empty the first field of that name and index comes to stand
+  found : (k : ℕ) (xs : List Entry) (d : List ℕ) → wanted d ≡ k → length d ≡ table-size → under f d ≡ numbersOf none → under f (notes xs d) ≡ numbersOf (first (isField f k) xs)
   unfolding notes first
-  found [] d l h = h
-  found (x ∷ xs) d l h =
-      test (isField f 0 x)
-      (λ t. let q = field-is x t in
+  found k [] d i l h = h
+  found k (x ∷ xs) d i l h =
+      test (isField f k x)
+      (λ t. let q = field-is k x t in
       let s = slot-alike (x .name) (q .0) in
       let c = code-below f in
       let b : slot (x .name) + 3 < length d = rw s (unfold slot in omega arith) in
-      let w = noted-so x d (q .1) b (rw s (first-is f d (numbersOf none) h)) in
+      let w = noted-so x d (q .1 ∙ sym i) b (rw s (first-is f d (numbersOf none) h)) in
       let u = noted-there x d (q .0) w in
       rw (pick-yes _ _ _ t) (kept xs (noting x d) (first-is f (noting x d) (numbersOf (some x)) u) ∙ u))
-      (λ t. let u = noted-past x d λ e w. T-not (isField f 0 x) t (is-field x e (noted-is x d w .0)) in
-      rw (pick-no _ _ _ t) (found xs (noting x d) (length-noted x d ∙ l) (u ∙ h)))
+      (λ t. let u = noted-past x d λ e w. T-not (isField f k x) t (is-field k x e (noted-is x d w .0 ∙ i)) in
+      rw (pick-no _ _ _ t) (found k xs (noting x d) (wanted-noted x d ∙ i) (length-noted x d ∙ l) (u ∙ h)))
+
+-- a table in which nothing is noted yet
+abbrev pub blank : ℕ → List ℕ
+blank k = set (replicate table-size 0) wanted-at k
+
+wanted-notes : (xs : List Entry) (d : List ℕ) → wanted (notes xs d) ≡ wanted d
+unfolding notes
+wanted-notes [] d = refl
+wanted-notes (x ∷ xs) d = wanted-notes xs (noting x d) ∙ wanted-noted x d
+
+wanted-blank : (k : ℕ) → wanted (blank k) ≡ k
+unfolding wanted
+wanted-blank k = getD-set-same (replicate table-size 0) wanted-at k 0 (omega (arith, length-replicate {A = ℕ} table-size 0))
 
 -- the table that is made is the one that is asked for
-pub placed : (xs : List Entry) → Placed xs (notes xs (replicate table-size 0))
+pub placed : (k : ℕ) (xs : List Entry) → Placed k xs (notes xs (blank k))
 unfolding slot
-placed xs f =
+placed k xs = (wanted-notes xs (blank k) ∙ wanted-blank k, λ f.
     let c = code-below f in
-    found f xs (replicate table-size 0) (length-replicate {A = ℕ} table-size 0)
-    (under-is f (replicate table-size 0) (numbersOf none) refl λ j b. getD-replicate table-size (slot f + j) 0 0 (omega arith) ∙ sym (getD-replicate 4 j 0 0 b))
+    found f k xs (blank k) (wanted-blank k) (length-set (replicate table-size 0) wanted-at k ∙ length-replicate {A = ℕ} table-size 0)
+    (under-is f (blank k) (numbersOf none) refl λ j b.
+    getD-set-other (replicate table-size 0) wanted-at (slot f + j) k 0 (λ q. omega arith) ∙ getD-replicate table-size (slot f + j) 0 0 (omega arith) ∙ sym (getD-replicate 4 j 0 0 b)))
 
 -- and there is no other
-pub placed-once : (xs : List Entry) (d d′ : List ℕ) → length d ≡ table-size → length d′ ≡ table-size → Placed xs d → Placed xs d′ → d ≡ d′
-unfolding slot
-placed-once xs d d′ l l′ h h′ =
+pub placed-once : (k : ℕ) (xs : List Entry) (d d′ : List ℕ) → length d ≡ table-size → length d′ ≡ table-size → Placed k xs d → Placed k xs d′ → d ≡ d′
+unfolding slot wanted
+placed-once k xs d d′ l l′ (w, h) (w′, h′) =
     ext-getD 0 d d′ (l ∙ sym l′) λ i b.
+    test (ltb i wanted-at)
+    (λ t. let t′ = ltb→lt i wanted-at t in
     let f : Field = nameOf (i / 4) in
     let n = code-name (i / 4) (omega arith) in
     let e : slot f + i % 4 ≡ i = omega arith in
-    let k : i % 4 < 4 = omega arith in
-    rw (← e) (sym (under-at f d (i % 4) k) ∙ ap (λ (y : List ℕ). getD y (i % 4) 0) (h f ∙ sym (h′ f)) ∙ under-at f d′ (i % 4) k)
+    let c : i % 4 < 4 = omega arith in
+    rw (← e) (sym (under-at f d (i % 4) c) ∙ ap (λ (y : List ℕ). getD y (i % 4) 0) (h f ∙ sym (h′ f)) ∙ under-at f d′ (i % 4) c))
+    (λ t. let e : wanted-at ≡ i = omega (arith, nltb→le i wanted-at t) in rw (← e) (w ∙ sym w′))
