@@ -54,8 +54,8 @@ outcome-back (NotDone n p) = refl
 pub one-outcome : (x y : Outcome) → toldOutcome x ≡ toldOutcome y → x ≡ y
 one-outcome = one-answer toldOutcome outcome outcome-back
 
--- of the table of places beside it: four numbers for each of 43 names, and no other
-pub one-table : (xs : List Entry) (d d′ : List ℕ) → length d ≡ table-size → length d′ ≡ table-size → Placed xs d → Placed xs d′ → d ≡ d′
+-- of the table of places beside it: four numbers for each of 43 names, the index that was wanted, and no other
+pub one-table : (i : ℕ) (xs : List Entry) (d d′ : List ℕ) → length d ≡ table-size → length d′ ≡ table-size → Placed i xs d → Placed i xs d′ → d ≡ d′
 one-table = placed-once
 
 abbrev part : Told → Part

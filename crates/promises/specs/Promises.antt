@@ -29,7 +29,7 @@ use Rattle.layouts.specs.Laws.Whole.{Wrote, Kept}
 use Rattle.layouts.specs.Laws.Whole as Whole
 use Rattle.layouts.specs.Laws.Fields.{fields-stand, first-sought, first-holds}
 use Rattle.records.specs.Record.{sealInformation, seal, signedPart, signature}
-use Rattle.records.specs.Handing.{readRecord, recordAnswer, fieldsOf, fieldsIn, fillAnswer, fillAfter, writeAnswer, writeAfter, isAmong, toldPlace, partNames, fieldAnswer, isListed, matchAnswer, integerNames, toldValue, valueAnswer, isOwner, toldCritical, criticalAnswer, listNames, toldCount, countAnswer, signedBytes, informationOf, signedPartOf, sealOf}
+use Rattle.records.specs.Handing.{readRecord, recordAnswer, fieldsIn, fillAnswer, fillAfter, writeAnswer, writeAfter, isAmong, toldPlace, partNames, fieldAnswer, isListed, matchAnswer, integerNames, toldValue, valueAnswer, isOwner, toldCritical, criticalAnswer, listNames, toldCount, countAnswer, signedBytes, informationOf, signedPartOf, sealOf}
 use Rattle.records.specs.Laws.Record as Record
 use Rattle.records.specs.Laws.Handing.{Tells}
 use Rattle.records.specs.Laws.Handing as Handing
@@ -100,12 +100,12 @@ module _ (r : Members) (k : Clear r) where
     -- "handed out as a part of the lent record, .. in a list by index, absent past the last"
     pub part-is-the-field : (f : Field) (i : ℕ) → Told-of (isAmong partNames f i) toldPlace (fieldAnswer r f i w)
     unfolding fieldAnswer
-    part-is-the-field f i = rw e (Handing.told-first w (fields r v) (fields-stand-there w v e) (isAmong partNames f i) toldPlace)
+    part-is-the-field f i = Handing.told-first r w v e (fields-stand-there w v e) (isAmong partNames f i) toldPlace
 
     -- "given record and digest, the first equal entry in the record"
     pub match-is-the-first-equal : (given : List ℕ) → Told-of (isListed given) toldPlace (matchAnswer r given w)
     unfolding matchAnswer
-    match-is-the-first-equal given = rw e (Handing.told-first w (fields r v) (fields-stand-there w v e) (isListed given) toldPlace)
+    match-is-the-first-equal given = Handing.told-first r w v e (fields-stand-there w v e) (isListed given) toldPlace
 
     pub equal-is-the-given : (given : List ℕ) (x : Entry) → T (isListed given x) → x .bytes ≡ given
     equal-is-the-given given x t = Handing.listed-is given x t
@@ -113,16 +113,16 @@ module _ (r : Members) (k : Clear r) where
     -- "Integers and critical come as values."
     pub value-is-the-field's : (f : Field) → Told-of (isAmong integerNames f 0) toldValue (valueAnswer r f w)
     unfolding valueAnswer
-    value-is-the-field's f = rw e (Handing.told-first w (fields r v) (fields-stand-there w v e) (isAmong integerNames f 0) toldValue)
+    value-is-the-field's f = Handing.told-first r w v e (fields-stand-there w v e) (isAmong integerNames f 0) toldValue
 
     pub critical-is-the-item's : (f : Field) (i : ℕ) → Told-of (isOwner f i) (toldCritical f i (fields r v)) (criticalAnswer r f i w)
     unfolding criticalAnswer
-    critical-is-the-item's f i = rw e (Handing.told-first w (fields r v) (fields-stand-there w v e) (isOwner f i) (toldCritical f i (fields r v)))
+    critical-is-the-item's f i = rw (Handing.fields-in r w v e) (Handing.told-first r w v e (fields-stand-there w v e) (isOwner f i) (toldCritical f i (fields r v)))
 
     -- "Absent and present-with-no-items are different field values."
     pub count-is-the-list's : (f : Field) → Told-of (isAmong listNames f 0) toldCount (countAnswer r f w)
     unfolding countAnswer
-    count-is-the-list's f = rw e (Handing.told-first w (fields r v) (fields-stand-there w v e) (isAmong listNames f 0) toldCount)
+    count-is-the-list's f = Handing.told-first r w v e (fields-stand-there w v e) (isAmong listNames f 0) toldCount
 
   -- a refused record answers every question with its refusal
   pub refused-is-told : (w : List ℕ) (n p : ℕ) → readRecord r w ≡ fault n p → (f : Field) (i : ℕ) (given : List ℕ)
@@ -130,12 +130,11 @@ module _ (r : Members) (k : Clear r) where
   refused-is-told w n p e f i given = Handing.refused-told r w n p e f i given
 
   -- so do those that a reader's table of places tells: its second and third number are the field's start and length
-  pub placed-stands-there : (w : List ℕ) (v : Values r) → readRecord r w ≡ good v → (d : List ℕ) → Placed (fieldsIn r w) d → (f : Field) (x : Entry) → first (isField f 0) (fields r v) ≡ some x
+  pub placed-stands-there : (w : List ℕ) (v : Values r) → readRecord r w ≡ good v → (i : ℕ) (d : List ℕ) → Placed i (fieldsIn r w) d → (f : Field) (x : Entry) → first (isField f i) (fields r v) ≡ some x
       → take (getD (under f d) 2 0) (drop (getD (under f d) 1 0) w) ≡ x .bytes
-  unfolding fieldsIn
-  placed-stands-there w v e d h f x i =
-      let u : under f d ≡ numbersOf (some x) = h f ∙ ap (λ (y : List Entry). numbersOf (first (isField f 0) y)) (ap (fieldsOf r) e) ∙ ap numbersOf i in
-      rw u (first-holds (Stands w) (isField f 0) (fields r v) x (fields-stand-there w v e) (rw i at (first-sought (isField f 0) (fields r v))))
+  placed-stands-there w v e i d h f x q =
+      let u : under f d ≡ numbersOf (some x) = h .1 f ∙ ap (λ (y : List Entry). numbersOf (first (isField f i) y)) (Handing.fields-in r w v e) ∙ ap numbersOf q in
+      rw u (first-holds (Stands w) (isField f i) (fields r v) x (fields-stand-there w v e) (rw q at (first-sought (isField f i) (fields r v))))
 
   -- ---- sheets
 

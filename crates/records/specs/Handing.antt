@@ -8,7 +8,7 @@ use Rattle.terms.specs.declared.Field.{Field}
 use Rattle.terms.specs.declared.Field.the-variants.{CertificateList, Created, End, Height, ListKind, ListedCertificate, ListedDigest, ListedType, MakerCertificate, OriginalDigest, PictureData, PictureType, PropertyText, SealAlgorithm, SealCustomCritical, SealCustomData, SealCustomId, SealCustomItem, SealCustomValue, SealId, SealInformation, SealName, SealSignedValue, SealType, SignatureAlgorithm, SignatureValue, SignedCustomCritical, SignedCustomData, SignedCustomId, SignedCustomItem, SignedCustomValue, SignedPart, SignerCertificate, SigningTime, Stamp, Start, Vendor, Width}
 use Rattle.terms.specs.Names.{sameName}
 use Rattle.terms.specs.Numbers.{done, absent, largest-record}
-use Rattle.terms.specs.Answer.{Res, good, fault, same, bit, Told, gives, told-one, told-two, told-none, refusal, answered}
+use Rattle.terms.specs.Answer.{Res, good, fault, bind, same, bit, Told, gives, told-one, told-two, told-none, refusal, answered}
 use Rattle.contents.specs.Integer.{value}
 use Rattle.layouts.specs.Layout.{Members, Values}
 use Rattle.layouts.specs.Whole.{accept, fillSheet, writeRecord, stored}
@@ -56,12 +56,7 @@ writeAnswer r x d = answered (λ w. length w) (writeFrom r x (length d))
 unfoldable pub writeAfter : Members → List ℕ → List ℕ → List ℕ
 writeAfter r x d = stored (writeFrom r x (length d)) d
 
--- ---- of an accepted record
-
--- what is asked of a record, or its refusal
-abbrev pub asked : {A : Type 0} → Res A → (A → Told) → Told
-asked (good v) f = f v
-asked (fault n p) f = refusal n p
+-- ---- asking for a field
 
 -- the fields of an accepted record; a refused one has none
 abbrev pub fieldsOf : (r : Members) → Res (Values r) → List Entry
@@ -71,13 +66,25 @@ fieldsOf r (fault n p) = []
 unfoldable pub fieldsIn : Members → List ℕ → List Entry
 fieldsIn r w = fieldsOf r (readRecord r w)
 
--- what is told of the first field that passes; absent where none does
-abbrev toldOr : (Entry → Told) → Option Entry → Told
-toldOr tell none = told-none absent
-toldOr tell (some x) = tell x
+-- the first field that passes, none, or the record's refusal
+unfoldable pub seek : Members → (Entry → Bool) → List ℕ → Res (Option Entry)
+seek r p w = bind (readRecord r w) λ v. good (first p (fields r v))
 
-unfoldable pub toldFirst : (Entry → Bool) → (Entry → Told) → List Entry → Told
-toldFirst p tell xs = toldOr tell (first p xs)
+-- what is told of it
+abbrev pub tell : (Entry → Told) → Res (Option Entry) → Told
+tell t (good (some x)) = t x
+tell t (good none) = told-none absent
+tell t (fault n p) = refusal n p
+
+-- "With a refusal, an absent field or no match, the part is empty, at the record's start": start and length of what is handed out
+abbrev pub handedOut : Res (Option Entry) → ℕ × ℕ
+handedOut (good (some x)) = (x .place, length (x .bytes))
+handedOut (good none) = (0, 0)
+handedOut (fault n p) = (0, 0)
+
+-- where a field lies, start and length
+abbrev pub toldPlace : Entry → Told
+toldPlace x = told-two done (x .place) (length (x .bytes))
 
 -- a field, by one of some names and its index
 unfoldable pub isOneOf : List Field → Field → Bool
@@ -87,10 +94,6 @@ isOneOf (x ∷ xs) f = sameName x f || isOneOf xs f
 unfoldable pub isAmong : List Field → Field → ℕ → Entry → Bool
 isAmong names f k x = isOneOf names f && isField f k x
 
--- where a field lies, start and length
-abbrev pub toldPlace : Entry → Told
-toldPlace x = told-two done (x .place) (length (x .bytes))
-
 -- "the bytes its section has, or the signed bytes": the fields that are handed out as parts. Integers and critical come as values.
 abbrev pub partNames : List Field
 partNames =
@@ -99,15 +102,21 @@ partNames =
     ∷ SigningTime ∷ OriginalDigest ∷ PropertyText ∷ SignedCustomId ∷ SignedCustomValue ∷ SignerCertificate ∷ SignatureAlgorithm ∷ SignatureValue ∷ Stamp ∷ []
 
 -- "in a list by index, absent past the last"
+abbrev pub fieldIn : Members → Field → ℕ → List ℕ → Res (Option Entry)
+fieldIn r f k w = seek r (isAmong partNames f k) w
+
 unfoldable pub fieldAnswer : Members → Field → ℕ → List ℕ → Told
-fieldAnswer r f k w = asked (readRecord r w) λ v. toldFirst (isAmong partNames f k) toldPlace (fields r v)
+fieldAnswer r f k w = tell toldPlace (fieldIn r f k w)
 
 -- "the first equal entry in the record. For kind 1 the given bytes are compared with the certificates; for kind 2 the part is the digest."
 unfoldable pub isListed : List ℕ → Entry → Bool
 isListed given x = isOneOf (ListedCertificate ∷ ListedDigest ∷ []) (x .name) && same given (x .bytes)
 
+abbrev pub matchIn : Members → List ℕ → List ℕ → Res (Option Entry)
+matchIn r given w = seek r (isListed given) w
+
 unfoldable pub matchAnswer : Members → List ℕ → List ℕ → Told
-matchAnswer r given w = asked (readRecord r w) λ v. toldFirst (isListed given) toldPlace (fields r v)
+matchAnswer r given w = tell toldPlace (matchIn r given w)
 
 -- "Integers and critical come as values."
 abbrev pub integerNames : List Field
@@ -117,7 +126,7 @@ abbrev pub toldValue : Entry → Told
 toldValue x = gives done (value (x .bytes) ∷ [])
 
 unfoldable pub valueAnswer : Members → Field → List ℕ → Told
-valueAnswer r f w = asked (readRecord r w) λ v. toldFirst (isAmong integerNames f 0) toldValue (fields r v)
+valueAnswer r f w = tell toldValue (seek r (isAmong integerNames f 0) w)
 
 -- the custom item that a critical belongs to
 unfoldable pub isOwner : Field → ℕ → Entry → Bool
@@ -128,7 +137,7 @@ abbrev pub toldCritical : Field → ℕ → List Entry → Entry → Told
 toldCritical f k xs x = told-one done (bit (isThere (first (isField f k) xs)))
 
 unfoldable pub criticalAnswer : Members → Field → ℕ → List ℕ → Told
-criticalAnswer r f k w = asked (readRecord r w) λ v. toldFirst (isOwner f k) (toldCritical f k (fields r v)) (fields r v)
+criticalAnswer r f k w = tell (toldCritical f k (fieldsIn r w)) (seek r (isOwner f k) w)
 
 -- "Absent and present-with-no-items are different field values."
 abbrev pub listNames : List Field
@@ -138,7 +147,7 @@ abbrev pub toldCount : Entry → Told
 toldCount x = told-one done (x .items)
 
 unfoldable pub countAnswer : Members → Field → List ℕ → Told
-countAnswer r f w = asked (readRecord r w) λ v. toldFirst (isAmong listNames f 0) toldCount (fields r v)
+countAnswer r f w = tell toldCount (seek r (isAmong listNames f 0) w)
 
 -- ---- signed bytes
 
@@ -177,9 +186,3 @@ abbrev pub toldItems : Items → Told
 toldItems (Count n) = told-one done n
 toldItems NoItems = told-none absent
 toldItems (ItemsRefused n p) = refusal n p
-
--- "With a refusal, an absent field or no match, the part is empty, at the record's start": start and length of what is handed out
-abbrev pub handedOut : Part → ℕ × ℕ
-handedOut (There a n) = (a, n)
-handedOut NoPart = (0, 0)
-handedOut (PartRefused n p) = (0, 0)

@@ -6,11 +6,11 @@ use mathlib.Core.List.{List, [], _∷_, _++_}
 use lib.ListN.{set, take, drop}
 use lib.IntN.{pos, negsuc}
 use Rattle.terms.specs.declared.Field.the-variants.{SealInformation, Header, Vendor, SealId, Property, SealType, SealName, ListKind, CertificateList, ListedCertificate, ListedEntry, ListedType, ListedDigest, Created, Start, End, Picture, PictureType, PictureData, Width, Height, SealCustomData, SealCustomItem, SealCustomId, SealCustomCritical, SealCustomValue, MakerCertificate, SealAlgorithm, SealSignedValue, SignedPart, Seal, SigningTime, OriginalDigest, PropertyText, SignedCustomData, SignedCustomItem, SignedCustomId, SignedCustomCritical, SignedCustomValue, SignerCertificate, SignatureAlgorithm, SignatureValue, Stamp}
-use Rattle.terms.specs.Numbers.{absent, bad-length, item-missing}
+use Rattle.terms.specs.Numbers.{absent, item-missing}
 use Rattle.terms.specs.Answer.{gives, refuses, told-none, refusal}
 use Rattle.terms.specs.Laws.Table.{Row, asks, answers, agreed}
 use Rattle.records.specs.Record.{seal, signature}
-use Rattle.records.specs.Handing.{fieldAnswer, matchAnswer, toldPart, toldNumber, toldIs, toldItems, handedOut}
+use Rattle.records.specs.Handing.{handedOut, fieldIn, fieldAnswer, matchAnswer, toldPart, toldNumber, toldIs, toldItems}
 use Rattle.records.specs.Samples.{recordS, recordD}
 use Rattle.records.specs.Examples.{evaluate, at, sealD}
 use Rattle.records.specs.declared.Part.the-variants.{There, Absent, Refused}
@@ -120,5 +120,6 @@ unfolding evaluate
 told-answers = agreed tellings tt
 
 -- "With a refusal, an absent field or no match, the part is empty, at the record's start"
-handings : handedOut (There 26 4) ∷ handedOut Absent ∷ handedOut (Refused bad-length 0) ∷ [] ≡ (26, 4) ∷ (0, 0) ∷ (0, 0) ∷ []
+handings : handedOut (fieldIn signature Vendor 0 recordD) ∷ handedOut (fieldIn signature Stamp 0 recordS) ∷ handedOut (fieldIn signature Vendor 0 (0x30 ∷ 0x80 ∷ [])) ∷ [] ≡ (26, 4) ∷ (0, 0) ∷ (0, 0) ∷ []
+unfolding evaluate
 handings = refl
