@@ -85,7 +85,5 @@ fn main() {
         os::fail(b"read");
         return;
     };
-    let r = readers::read_signature(&input[..n]);
-    let outcome = r.outcome;
-    print(outcome);
+    print(readers::check_signature(&input[..n]));
 }

@@ -81,7 +81,6 @@ module _ (r : Members) (k : Clear r) where
 
   -- bytes past the first 65,536 change no answer: a program whose buffer holds so many answers for the whole input
   pub later-bytes-change-nothing : (w z : List ℕ) → largest-record < length w → recordAnswer r (w ++ z) ≡ recordAnswer r w
-  unfolding recordAnswer
   later-bytes-change-nothing w z h = ap (answered (λ v. length (w ++ z))) (Whole.accept-more largest-record r w z h (omega arith)) ∙ go (readRecord r w) refl
     where
       go : (x : Res (Values r)) → readRecord r w ≡ x → answered (λ v. length (w ++ z)) x ≡ answered (λ v. length w) x

@@ -2,7 +2,7 @@
 use mathlib.Core.Path.{_≡_, refl, sym, ap, _∙_}
 use Prim.Native.Nat.{ℕ}
 use mathlib.Core.List.{List, []}
-use lib.ListN.{length, replicate}
+use lib.ListN.{length}
 use Rattle.terms.specs.Answer.{Res, good, fault, answered}
 use Rattle.terms.specs.Laws.Answer.{never}
 use Rattle.heads.specs.Scan.{outermostAt}
@@ -17,14 +17,14 @@ use Rattle.layouts.specs.Whole.{sequence, accept, toldOutcome}
 use Rattle.layouts.specs.declared.Outcome.{Outcome}
 use Rattle.layouts.specs.declared.Outcome.the-variants.{Length, Refused as Unread}
 use Rattle.records.specs.Handing.{toldRecord, fieldsOf}
-use Rattle.layouts.specs.Places.{table-size, Placed}
+use Rattle.layouts.specs.Places.{Placed}
 use Rattle.layouts.specs.Marks.{notes, afterSeen, marksAll, recordMarks}
 use Rattle.layouts.specs.Fields.{fields}
-use Rattle.layouts.specs.Laws.Places.{placed}
+use Rattle.layouts.specs.Laws.Places.{blank, placed}
 use Rattle.layouts.specs.Laws.Marks.{accept-marks}
 use Rattle.walks.specs.Walk.{recordWalk}
 use Rattle.walks.specs.Laws.{answers, tables}
-use Rattle.readers.specs.Outcome.{outcomeOf}
+use Rattle.readers.specs.Outcome.{outcomeOf, wholeWalk}
 
 told : {A : Type 0} (n : ℕ) (x : Res A) → toldOutcome (outcomeOf (whole n x)) ≡ answered (λ v. n) x
 told n (good a) = refl
@@ -35,54 +35,54 @@ answer : (most : ℕ) (r : Members) (s : List ℕ) (y : Outcome) → y ≡ outco
 answer most r s y h = ap toldOutcome (h ∙ ap outcomeOf (whole-accept most r s)) ∙ told (length s) (accept most r s)
 
 -- where it is refused there is no field
-no-field : (most : ℕ) (r : Members) (s : List ℕ) (n q : ℕ) → wholeScan most r s ≡ Refused n q → Placed (fieldsOf r (accept most r s)) (replicate table-size 0)
+no-field : (most : ℕ) (r : Members) (s : List ℕ) (k n q : ℕ) → wholeScan most r s ≡ Refused n q → Placed k (fieldsOf r (accept most r s)) (blank k)
 unfolding notes
-no-field most r s n q h = go (accept most r s) (sym (whole-accept most r s) ∙ h)
+no-field most r s k n q h = go (accept most r s) (sym (whole-accept most r s) ∙ h)
   where
-    go : (x : Res (Values r)) → whole (length s) x ≡ Refused n q → Placed (fieldsOf r x) (replicate table-size 0)
+    go : (x : Res (Values r)) → whole (length s) x ≡ Refused n q → Placed k (fieldsOf r x) (blank k)
     go (good v) g = never (cc)
-    go (fault m p) g = placed []
+    go (fault m p) g = placed k []
 
 -- where it is accepted the table has its fields
-each-field : (most : ℕ) (r : Members) (s : List ℕ) (a z m : ℕ) → wholeScan most r s ≡ Next m → outermostAt most sequence s 0 (length s) ≡ At a z
-    → Placed (fieldsOf r (accept most r s)) (marksAll r 0 s a z (replicate table-size 0))
-each-field most r s a z m h o = go (accept most r s) refl (sym (whole-accept most r s) ∙ h)
+each-field : (most : ℕ) (r : Members) (s : List ℕ) (k m : ℕ) → wholeScan most r s ≡ Next m → Placed k (fieldsOf r (accept most r s)) (recordMarks most r s 0 (length s) (blank k))
+unfolding wholeScan recordScan recordMarks
+each-field most r s k m h = go (outermostAt most sequence s 0 (length s)) refl
   where
-    go : (x : Res (Values r)) → accept most r s ≡ x → whole (length s) x ≡ Next m → Placed (fieldsOf r x) (marksAll r 0 s a z (replicate table-size 0))
-    go (good v) q g = rw (accept-marks most r s v q a z o (replicate table-size 0)) (placed (fields r v))
-    go (fault n p) q g = never (cc)
+    rest : (x : Res (Values r)) → accept most r s ≡ x → whole (length s) x ≡ Next m → (a z : ℕ) → outermostAt most sequence s 0 (length s) ≡ At a z → Placed k (fieldsOf r x) (marksAll r 0 s a z (blank k))
+    rest (good v) q g a z o = rw (accept-marks most r s v q a z o (blank k)) (placed k (fields r v))
+    rest (fault n p) q g a z o = never (cc)
 
-module _ (most : ℕ) (r : Members) (s : List ℕ) (x : Step) (d : List ℕ) (w : (x, d) ≡ recordWalk most r s 0 (length s) (replicate table-size 0)) where
-  h : x ≡ recordScan most r s 0 (length s)
-  unfolding recordWalk
-  h = answers w
+    go : (x : Seen) → outermostAt most sequence s 0 (length s) ≡ x
+        → Placed k (fieldsOf r (accept most r s)) (afterSeen (outermostAt most sequence s 0 (length s)) (blank k) λ a z. marksAll r 0 s a z (blank k))
+    go (At a z) o = rw o (rest (accept most r s) refl (sym (whole-accept most r s) ∙ h) a z o)
+    go (Bad n p) o = let e : Refused n p ≡ Next m = rw o at h in never (cc)
 
-  module _ (n q : ℕ) (b : x ≡ Refused n q) where
-    pub whole-refused : (y : Outcome) → y ≡ outcomeOf x → toldOutcome y ≡ toldRecord most r s
-    unfolding wholeScan
-    whole-refused y g = answer most r s y (rw (← h, b) (g ∙ ap outcomeOf b))
+-- ---- a record, then nothing after it
 
-    pub places-refused : (t : List ℕ) → t ≡ replicate table-size 0 → Placed (fieldsOf r (accept most r s)) t
-    unfolding wholeScan
-    places-refused t i = rw i (no-field most r s n q (rw (← h, b)))
+module _ (most : ℕ) (r : Members) (s d d′ : List ℕ) (x : Step) (w : (x, d′) ≡ recordWalk most r s 0 (length s) d) where
+  pub walk-refused : (n q : ℕ) → x ≡ Refused n q → (x, d′) ≡ wholeWalk most r s d
+  unfolding recordWalk wholeWalk wholeScan
+  walk-refused n q b = let h = answers w in let t = tables w in rw (← h, ← t, b) refl
 
-  module _ (q : ℕ) (z : Step) (b : x ≡ Next q) (c : z ≡ closeAt q (length s)) where
-    pub whole-close : (y : Outcome) → y ≡ outcomeOf z → toldOutcome y ≡ toldRecord most r s
-    unfolding wholeScan
-    whole-close y g = answer most r s y (rw (← h, b) (g ∙ ap outcomeOf c))
+  pub walk-closed : (q : ℕ) (z : Step) → x ≡ Next q → z ≡ closeAt q (length s) → (z, d′) ≡ wholeWalk most r s d
+  unfolding recordWalk wholeWalk wholeScan
+  walk-closed q z b c = let h = answers w in let t = tables w in rw (← h, ← t, b, c) refl
 
-    pub places-left : (n m : ℕ) (t : List ℕ) → z ≡ Refused n m → t ≡ replicate table-size 0 → Placed (fieldsOf r (accept most r s)) t
-    unfolding wholeScan
-    places-left n m t o i = rw i (no-field most r s n m (rw (← h, b) (sym c ∙ o)))
+-- ---- what is told of it
 
-    pub places-whole : (m : ℕ) → z ≡ Next m → Placed (fieldsOf r (accept most r s)) d
-    unfolding wholeScan recordWalk recordScan recordMarks
-    places-whole m o = go (outermostAt most sequence s 0 (length s)) refl (sym b ∙ h) (tables w)
-      where
-        go : (k : Seen) → outermostAt most sequence s 0 (length s) ≡ k → Next q ≡ (thenSeen k λ a z. scans r s a z)
-            → d ≡ (afterSeen k (replicate table-size 0) λ a z. marksAll r 0 s a z (replicate table-size 0)) → Placed (fieldsOf r (accept most r s)) d
-        go (At a e) i j u = rw u (each-field most r s a e m (rw (← h, b) (sym c ∙ o)) i)
-        go (Bad n p) i j u = never (cc)
+module _ (most : ℕ) (r : Members) (s d d′ : List ℕ) (x : Step) (w : (x, d′) ≡ wholeWalk most r s d) where
+  pub outcome-told : (y : Outcome) → y ≡ outcomeOf x → toldOutcome y ≡ toldRecord most r s
+  unfolding wholeWalk
+  outcome-told y g = answer most r s y (g ∙ ap outcomeOf (answers w))
+
+  module _ (k : ℕ) (b : d ≡ blank k) where
+    pub places-refused : (n q : ℕ) (t : List ℕ) → x ≡ Refused n q → t ≡ blank k → Placed k (fieldsOf r (accept most r s)) t
+    unfolding wholeWalk
+    places-refused n q t c i = rw i (no-field most r s k n q (sym (answers w) ∙ c))
+
+    pub places-whole : (m : ℕ) → x ≡ Next m → Placed k (fieldsOf r (accept most r s)) d′
+    unfolding wholeWalk
+    places-whole m c = rw (tables w, b) (each-field most r s k m (sym (answers w) ∙ c))
 
 module _ (x : Step) where
   pub outcome-next : (n : ℕ) → x ≡ Next n → Length n ≡ outcomeOf x

@@ -5,13 +5,13 @@ use places::TABLE_SIZE;
 use structures::Row;
 use terms::LARGEST_RECORD;
 ghost use mathlib.Core.Path.{_≡_};
-ghost use lib.ListN.{replicate};
-ghost use Rattle.layouts.specs.Places.{table-size, Placed};
+ghost use Rattle.layouts.specs.Laws.Places.{blank};
+ghost use Rattle.layouts.specs.Places.{Placed};
 ghost use Rattle.layouts.specs.Whole.{accept, toldOutcome};
 ghost use Rattle.records.specs.Record.{seal, signature};
 ghost use Rattle.records.specs.Handing.{toldRecord, recordAnswer, fieldsOf, fieldsIn};
 ghost use Rattle.structures.specs.Structure.{rowOf};
-ghost use Rattle.readers.specs.Outcome.{outcomeOf};
+ghost use Rattle.readers.specs.Outcome.{outcomeOf, wholeWalk};
 
 // What reading a record comes to; and, where it was accepted, the table of its places.
 pub struct Reading {
@@ -29,48 +29,70 @@ fn outcome(x: Step) -> Outcome
     }
 }
 
-// A refused record: it has no places.
-fn refused(x: Step) -> Reading
-    ensures { λ r. ⌜ (r .outcome ≡ outcomeOf x) × (r .places ≡ replicate table-size 0) ⌝ }
+// A record of at most `most` bytes that is the whole input, its fields noted: 5 if bytes are left over.
+fn whole(s: &[u8], x: Row, most: usize, places: &mut [usize]) -> Step
+    ensures { λ r. ⌜ (r, now (places .exit)) ≡ wholeWalk most (rowOf x) (now (s .entry)) (now (places .entry)) ⌝ }
 {
-    Reading {
-        outcome: outcome(x),
-        places: [0usize; TABLE_SIZE],
-    }
+    let r = walks::record(s, x, most, 0, s.len(), places);
+    let Step::Next(q) = r else {
+        return r;
+    };
+    leaves::close(q, s.len())
 }
 
-// A record of at most `most` bytes that is the whole input: 5 if bytes are left over.
-pub fn read(s: &[u8], x: Row, most: usize) -> Reading
-    ensures { λ r. ⌜ toldOutcome (r .outcome) ≡ toldRecord most (rowOf x) (now (s .entry)) ⌝ }
-    ensures { λ r. ⌜ Placed (fieldsOf (rowOf x) (accept most (rowOf x) (now (s .entry)))) (r .places) ⌝ }
+// A record of at most `most` bytes, and nothing noted of it.
+pub fn check(s: &[u8], x: Row, most: usize) -> Outcome
+    ensures { λ r. ⌜ toldOutcome r ≡ toldRecord most (rowOf x) (now (s .entry)) ⌝ }
 {
-    let mut places = [0usize; TABLE_SIZE];
-    let r = walks::record(s, x, most, 0, s.len(), &mut places);
-    let Step::Next(q) = r else {
-        return refused(r);
-    };
-    let c = leaves::close(q, s.len());
-    let Step::Next(_) = c else {
-        return refused(c);
+    let mut none = [0usize; 0];
+    outcome(whole(s, x, most, &mut none))
+}
+
+// A record of at most `most` bytes, and where its fields stand: of those in a list, the one of an index.
+pub fn read(s: &[u8], x: Row, most: usize, index: usize) -> Reading
+    ensures { λ r. ⌜ toldOutcome (r .outcome) ≡ toldRecord most (rowOf x) (now (s .entry)) ⌝ }
+    ensures { λ r. ⌜ Placed index (fieldsOf (rowOf x) (accept most (rowOf x) (now (s .entry)))) (r .places) ⌝ }
+{
+    let mut places = places::blank(index);
+    let r = whole(s, x, most, &mut places);
+    let Step::Next(_) = r else {
+        return Reading {
+            outcome: outcome(r),
+            places: places::blank(index),
+        };
     };
     Reading {
-        outcome: outcome(c),
+        outcome: outcome(r),
         places: places,
     }
 }
 
-// A seal: its length, or the number and place of the first refusal; and where its fields stand.
-pub fn read_seal(s: &[u8]) -> Reading
-    ensures { λ r. ⌜ toldOutcome (r .outcome) ≡ recordAnswer seal (now (s .entry)) ⌝ }
-    ensures { λ r. ⌜ Placed (fieldsIn seal (now (s .entry))) (r .places) ⌝ }
+// A seal: its length, or the number and place of the first refusal.
+pub fn check_seal(s: &[u8]) -> Outcome
+    ensures { λ r. ⌜ toldOutcome r ≡ recordAnswer seal (now (s .entry)) ⌝ }
 {
-    read(s, Row::Seal, LARGEST_RECORD)
+    check(s, Row::Seal, LARGEST_RECORD)
 }
 
-// A signature record: its length, or the number and place of the first refusal; and where its fields stand.
-pub fn read_signature(s: &[u8]) -> Reading
-    ensures { λ r. ⌜ toldOutcome (r .outcome) ≡ recordAnswer signature (now (s .entry)) ⌝ }
-    ensures { λ r. ⌜ Placed (fieldsIn signature (now (s .entry))) (r .places) ⌝ }
+// A signature record: its length, or the number and place of the first refusal.
+pub fn check_signature(s: &[u8]) -> Outcome
+    ensures { λ r. ⌜ toldOutcome r ≡ recordAnswer signature (now (s .entry)) ⌝ }
 {
-    read(s, Row::Signature, LARGEST_RECORD)
+    check(s, Row::Signature, LARGEST_RECORD)
+}
+
+// A seal, and where its fields stand: of those in a list, the one of an index.
+pub fn read_seal(s: &[u8], index: usize) -> Reading
+    ensures { λ r. ⌜ toldOutcome (r .outcome) ≡ recordAnswer seal (now (s .entry)) ⌝ }
+    ensures { λ r. ⌜ Placed index (fieldsIn seal (now (s .entry))) (r .places) ⌝ }
+{
+    read(s, Row::Seal, LARGEST_RECORD, index)
+}
+
+// A signature record, and where its fields stand: of those in a list, the one of an index.
+pub fn read_signature(s: &[u8], index: usize) -> Reading
+    ensures { λ r. ⌜ toldOutcome (r .outcome) ≡ recordAnswer signature (now (s .entry)) ⌝ }
+    ensures { λ r. ⌜ Placed index (fieldsIn signature (now (s .entry))) (r .places) ⌝ }
+{
+    read(s, Row::Signature, LARGEST_RECORD, index)
 }

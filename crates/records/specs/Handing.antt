@@ -33,7 +33,7 @@ toldRecord most r w = answered (λ v. length w) (accept most r w)
 abbrev pub readRecord : (r : Members) → List ℕ → Res (Values r)
 readRecord r w = accept largest-record r w
 
-unfoldable pub recordAnswer : Members → List ℕ → Told
+abbrev pub recordAnswer : Members → List ℕ → Told
 recordAnswer r w = toldRecord largest-record r w
 
 -- what is filled from a record, and written from a sheet, into a destination of `room` bytes
@@ -63,7 +63,7 @@ abbrev pub fieldsOf : (r : Members) → Res (Values r) → List Entry
 fieldsOf r (good v) = fields r v
 fieldsOf r (fault n p) = []
 
-unfoldable pub fieldsIn : Members → List ℕ → List Entry
+abbrev pub fieldsIn : Members → List ℕ → List Entry
 fieldsIn r w = fieldsOf r (readRecord r w)
 
 -- the first field that passes, none, or the record's refusal

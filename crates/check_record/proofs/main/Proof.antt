@@ -28,11 +28,11 @@ returns c = search needs
 array-share-prefix-input : tie.Need-array-share-prefix-input
 array-share-prefix-input c = let m = counted _ _ _ (c .before .n .given .1) (c .before .before .before .before .fill .ensures) in search needs
 
-slice-aggregate-read-signature : tie.Need-slice-aggregate-read-signature
-slice-aggregate-read-signature c = let m = counted _ _ _ (c .before .before .n .given .1) (c .before .before .before .before .before .fill .ensures) in search needs
+slice-aggregate-check-signature : tie.Need-slice-aggregate-check-signature
+slice-aggregate-check-signature c = let m = counted _ _ _ (c .before .before .n .given .1) (c .before .before .before .before .before .fill .ensures) in search needs
 
-read-signature-requires : tie.Need-read-signature-requires
-read-signature-requires c κs = search needs
+check-signature-requires : tie.Need-check-signature-requires
+check-signature-requires c κs = search needs
 
 print-requires : tie.Need-print-requires
 print-requires c κs = search needs
@@ -52,7 +52,7 @@ main-spec =
     fail-requires
     returns
     array-share-prefix-input
-    slice-aggregate-read-signature
-    read-signature-requires
+    slice-aggregate-check-signature
+    check-signature-requires
     print-requires
     returns-2)

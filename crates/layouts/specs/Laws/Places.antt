@@ -181,11 +181,14 @@ wanted-blank k = getD-set-same (replicate table-size 0) wanted-at k 0 (omega (ar
 -- the table that is made is the one that is asked for
 pub placed : (k : ℕ) (xs : List Entry) → Placed k xs (notes xs (blank k))
 unfolding slot
-placed k xs = (wanted-notes xs (blank k) ∙ wanted-blank k, λ f.
-    let c = code-below f in
-    found f k xs (blank k) (wanted-blank k) (length-set (replicate table-size 0) wanted-at k ∙ length-replicate {A = ℕ} table-size 0)
-    (under-is f (blank k) (numbersOf none) refl λ j b.
-    getD-set-other (replicate table-size 0) wanted-at (slot f + j) k 0 (λ q. omega arith) ∙ getD-replicate table-size (slot f + j) 0 0 (omega arith) ∙ sym (getD-replicate 4 j 0 0 b)))
+placed k xs = (
+  wanted-notes xs (blank k) ∙ wanted-blank k,
+  λ f.
+      let c = code-below f in
+      found f k xs (blank k) (wanted-blank k) (length-set (replicate table-size 0) wanted-at k ∙ length-replicate {A = ℕ} table-size 0)
+      (under-is f (blank k) (numbersOf none) refl λ j b.
+      getD-set-other (replicate table-size 0) wanted-at (slot f + j) k 0 (λ q. omega arith) ∙ getD-replicate table-size (slot f + j) 0 0 (omega arith) ∙ sym (getD-replicate 4 j 0 0 b)),
+)
 
 -- and there is no other
 pub placed-once : (k : ℕ) (xs : List Entry) (d d′ : List ℕ) → length d ≡ table-size → length d′ ≡ table-size → Placed k xs d → Placed k xs d′ → d ≡ d′

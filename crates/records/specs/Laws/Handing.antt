@@ -29,7 +29,6 @@ told-first r w v e h p t = rw e (go (first p (fields r v)) refl (first-sought p 
     go (some x) q f = inl (x, f, first-holds (Stands w) p (fields r v) x h f, rw q)
 
 pub fields-in : (r : Members) (w : List ℕ) (v : Values r) → readRecord r w ≡ good v → fieldsIn r w ≡ fields r v
-unfolding fieldsIn
 fields-in r w v e = rw e
 
 -- an entry that equals what was given has its bytes
