@@ -125,7 +125,7 @@ reader-steps = agreed (steps ++ elsewhere) tt
 -- the code's answers in numbers: 0 for what is there, 255 for the end of a run (03, 42), a refusal with its own and the records before it
 abbrev tellings : List Row
 tellings =
-    (toldStepped (Record 165 170), gives 0 (pos 165 ∷ pos 170 ∷ []))
+    (toldStepped (Record 165 254), gives 0 (pos 165 ∷ pos 254 ∷ []))
     ∷ (toldStepped End, gives 255 [])
     ∷ (toldStepped (Refused 2 165 1), refuses 2 (pos 165 ∷ pos 1 ∷ []))
     ∷ (toldCounted (Records 2), gives 0 (pos 2 ∷ []))
@@ -137,5 +137,5 @@ unfolding evaluateRun
 told-answers = agreed tellings tt
 
 -- the part handed out: the record, else "empty, at the run's start" (03, 37)
-handings : handedRecord (Record 165 165) ∷ handedRecord End ∷ handedRecord (Refused other-tag 165 1) ∷ [] ≡ (165, 165) ∷ (0, 0) ∷ (0, 0) ∷ []
+handings : handedRecord (Record 165 254) ∷ handedRecord End ∷ handedRecord (Refused other-tag 165 1) ∷ [] ≡ (165, 254) ∷ (0, 0) ∷ (0, 0) ∷ []
 handings = refl
