@@ -12,12 +12,12 @@ use Rattle.terms.specs.Laws.Table.{Row, asks, answers, sameNumber, sameNumbers,
 use Rattle.contents.specs.Content.{toldCheck, ask, passes}
 use Rattle.contents.specs.Integer.{sign, shortest, wellFormed, turned, value, eight, shrink, contentOf, any, isKind, isMillimetres}
 use Rattle.contents.specs.Text.{within, starts, follows, textFrom, ia5, printable, utf8, partsFrom, isIdentifier}
-use Rattle.contents.specs.Time.{leap, monthLength, possible, isDigit, partFrom, zulu, timeFrom, timeCheck, timeRule, written, isReal}
+use Rattle.contents.specs.Time.{leap, monthLength, possible, isDigit, partFrom, zulu, notLater, timeFrom, timeCheck, timeRule, momentIn, momentOf, written, isReal, momentAt}
 use Rattle.contents.specs.Rules.{integerRule, stringRule, octetsRule, bitsRule, identifierRule, booleanRule, also, onlyRule}
 use Rattle.contents.specs.Leaves.{headerName, version, knownRule}
 
 evaluate : Unit {0}
-unfolding pick bind need every enough same sameNumber sameNumbers sameTold agree digits numberFrom ask passes sign shortest wellFormed turned value eight shrink contentOf within starts follows textFrom partsFrom isIdentifier leap monthLength possible isDigit partFrom zulu timeFrom timeCheck timeRule written isReal integerRule stringRule octetsRule bitsRule identifierRule booleanRule also onlyRule
+unfolding pick bind need every enough same sameNumber sameNumbers sameTold agree digits numberFrom ask passes sign shortest wellFormed turned value eight shrink contentOf within starts follows textFrom partsFrom isIdentifier leap monthLength possible isDigit partFrom zulu notLater timeFrom timeCheck timeRule momentIn momentOf written isReal integerRule stringRule octetsRule bitsRule identifierRule booleanRule also onlyRule
 evaluate = tt
 
 -- a rule that refuses with a number
@@ -345,3 +345,13 @@ reals (n ∷ ns) = isReal n ∷ reals ns
 real-times : reals (0 ∷ 101000000 ∷ 229000000 ∷ 20240701000000 ∷ 99991231235959 ∷ 20240230000000 ∷ 100000101000000 ∷ []) ≡ false ∷ true ∷ true ∷ true ∷ true ∷ false ∷ false ∷ []
 unfolding evaluate
 real-times = refl
+
+-- ---- a record's time as a moment, and one moment not later than another
+
+moment-of : momentOf (0x32 ∷ 0x30 ∷ 0x32 ∷ 0x32 ∷ 0x30 ∷ 0x34 ∷ 0x30 ∷ 0x35 ∷ 0x30 ∷ 0x36 ∷ 0x30 ∷ 0x37 ∷ 0x30 ∷ 0x38 ∷ 0x5A ∷ []) ≡ momentAt 20220405060708
+unfolding evaluate
+moment-of = refl
+
+not-later : notLater (momentAt 1) (momentAt 2) ∷ notLater (momentAt 2) (momentAt 2) ∷ notLater (momentAt 3) (momentAt 2) ∷ [] ≡ true ∷ true ∷ false ∷ []
+unfolding evaluate
+not-later = refl
