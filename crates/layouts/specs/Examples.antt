@@ -84,6 +84,10 @@ fullSheet =
 abbrev bareSheet : List ℕ
 bareSheet = take 10 fullSheet ++ 0x00 ∷ 0x00 ∷ 0x00 ∷ 0x01 ∷ 0x00 ∷ 0x00 ∷ 0x00 ∷ 0x00 ∷ 0x00 ∷ []
 
+big-endian : count 0x010203 ≡ 0x00 ∷ 0x01 ∷ 0x02 ∷ 0x03 ∷ []
+unfolding evaluate
+big-endian = refl
+
 full-filled : fillSheet 100 small full 33 ≡ good fullSheet
 unfolding evaluate
 full-filled = refl
