@@ -101,17 +101,25 @@ placesS =
     ∷ (Stamp, 0 ∷ 0 ∷ 0 ∷ 0 ∷ [])
     ∷ []
 
-abbrev spots : List (Field × List ℕ) → List (List ℕ)
-spots [] = []
-spots (x ∷ xs) = numbersOf (first (isField (x .0) 0) (fieldsIn signature recordS)) ∷ spots xs
+-- and in D, of two that come as values: its list kind and its first critical
+abbrev placesD : List (Field × List ℕ)
+placesD = (ListKind, 1 ∷ 46 ∷ 1 ∷ 0 ∷ []) ∷ (SealCustomCritical, 1 ∷ 148 ∷ 1 ∷ 0 ∷ []) ∷ []
+
+abbrev spots : List ℕ → List (Field × List ℕ) → List (List ℕ)
+spots w [] = []
+spots w (x ∷ xs) = numbersOf (first (isField (x .0) 0) (fieldsIn signature w)) ∷ spots w xs
 
 abbrev expectedSpots : List (Field × List ℕ) → List (List ℕ)
 expectedSpots [] = []
 expectedSpots (x ∷ xs) = x .1 ∷ expectedSpots xs
 
-places-of-S : spots placesS ≡ expectedSpots placesS
+places-of-S : spots recordS placesS ≡ expectedSpots placesS
 unfolding evaluate
 places-of-S = refl
+
+places-of-D : spots recordD placesD ≡ expectedSpots placesD
+unfolding evaluate
+places-of-D = refl
 
 -- ---- D, field by field, by name
 
