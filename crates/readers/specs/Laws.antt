@@ -23,7 +23,7 @@ use Rattle.layouts.specs.Fields.{fields}
 use Rattle.layouts.specs.Laws.Places.{blank, placed}
 use Rattle.layouts.specs.Laws.Marks.{accept-marks}
 use Rattle.walks.specs.Walk.{recordWalk}
-use Rattle.walks.specs.Laws.{answers, tables}
+use Rattle.entries.specs.Laws.{answers, tables}
 use Rattle.readers.specs.Outcome.{outcomeOf, wholeWalk}
 
 told : {A : Type 0} (n : ℕ) (x : Res A) → toldOutcome (outcomeOf (whole n x)) ≡ answered (λ v. n) x

@@ -6,17 +6,14 @@ use native.Mathlib.Numerals.{add-one}
 use native.Mathlib.Nat.{sub-zero}
 use mathlib.Core.Bool.{Bool, true, false, _||_}
 use mathlib.Core.List.{List, [], _∷_}
-use lib.ListN.{length, getD, take, drop, length-append, length-drop}
+use lib.ListN.{length, getD, drop}
 use lib.Seq.{slice, drop-cons, drop-nil}
 use lib.Dec.{ltb}
 use borrow.Author.Tests.{lt-ltb, le-ltb}
 use Rattle.terms.specs.declared.Field.{Field}
 use Rattle.terms.specs.Numbers.{no-item, too-many-items}
-use Rattle.terms.specs.Answer.{Res, good, fault, pick}
-use Rattle.terms.specs.Laws.Answer.{never}
-use Rattle.heads.specs.Head.{Cut, head, tlv, before}
-use Rattle.heads.specs.Laws.Head.{head-back, length-tlv}
-use Rattle.heads.specs.Scan.{seen, headAt, outermostAt}
+use Rattle.terms.specs.Answer.{pick}
+use Rattle.heads.specs.Scan.{headAt, outermostAt}
 use Rattle.heads.specs.declared.Seen.{Seen}
 use Rattle.heads.specs.declared.Seen.the-variants.{Item as At, Refused as Bad}
 use Rattle.heads.specs.declared.Step.{Step}
@@ -24,10 +21,10 @@ use Rattle.heads.specs.declared.Step.the-variants.{Next, Refused}
 use Rattle.items.specs.declared.Tag.{Tag}
 use Rattle.items.specs.declared.Tag.the-variants as tag
 use Rattle.items.specs.Scan.{tagByte}
-use Rattle.contents.specs.Content.{Check, fine, wrong, Leaf}
+use Rattle.contents.specs.Content.{Leaf}
 use Rattle.contents.specs.Leaves.{knownRule}
 use Rattle.layouts.specs.Layout.{Item, leaf, node, list, wrap, Members, end, _▸_, Member as Part, known, one, maybe, flag, choose, tagOf}
-use Rattle.layouts.specs.Scan.{thenSeen, thenStep, thenJudge, judgeAt, ruleAt, leafAt, beginsAt, closeAt, scanMany, scan, recordScan}
+use Rattle.layouts.specs.Scan.{thenSeen, thenStep, thenJudge, ruleAt, beginsAt, closeAt, scanMany, scan, recordScan}
 use Rattle.layouts.specs.Whole.{sequence}
 use Rattle.leaves.specs.Leaf.{pastOf}
 use Rattle.primitives.specs.declared.Content.{Content}
@@ -46,7 +43,9 @@ use Rattle.rows.specs.Row.{membersOf}
 use Rattle.layouts.specs.declared.Tally.{Tally}
 use Rattle.layouts.specs.declared.Tally.the-variants.{Items, Refused as Uncounted}
 use Rattle.layouts.specs.Marks.{noted, afterSeen, afterStep, afterTally, thenTally, tally, manyMarks, leafMarks, marks, marksAll, recordMarks}
-use Rattle.walks.specs.Walk.{listHeadAt, leafWalk, itemWalk, rowWalk, memberWalk, listWalk, recordWalk}
+use Rattle.entries.specs.Entry.{listHeadAt, leafWalk}
+use Rattle.entries.specs.Laws.{both, answers, tables}
+use Rattle.walks.specs.Walk.{itemWalk, rowWalk, memberWalk, listWalk, recordWalk}
 
 -- ---- a number that falls from an item to what stands in it
 
@@ -85,48 +84,6 @@ below a b t h k = omega arith
 passed : (x : Seen) → pastOf x ≡ thenSeen x (λ a z. Next z)
 passed (At a z) = refl
 passed (Bad n p) = refl
-
--- what was taken is a head whose content is right
-rule-taken : (t : ℕ) (rule : List ℕ → Check) (s : List ℕ) (p e a z : ℕ) → ruleAt t rule s p e ≡ At a z → (headAt t s p e ≡ At a z) × (rule (slice a z s) ≡ fine)
-unfolding ruleAt
-rule-taken t rule s p e a z h = go (headAt t s p e) refl h
-  where
-    same-item : (a z a′ z′ : ℕ) → At a′ z′ ≡ At a z → (a′ ≡ a) × (z′ ≡ z)
-    same-item a z a′ z′ g = (cc, cc)
-
-    judged : (k : Check) (a′ z′ : ℕ) → headAt t s p e ≡ At a′ z′ → rule (slice a′ z′ s) ≡ k → judgeAt k p a′ z′ ≡ At a z → (headAt t s p e ≡ At a z) × (rule (slice a z s) ≡ fine)
-    judged fine a′ z′ o q g = let b = same-item a z a′ z′ g in (rw (← b .0, ← b .1) o, rw (← b .0, ← b .1) q)
-    judged (wrong n x) a′ z′ o q g = never (cc)
-
-    go : (x : Seen) → headAt t s p e ≡ x → (thenJudge x λ a z. judgeAt (rule (slice a z s)) p a z) ≡ At a z → (headAt t s p e ≡ At a z) × (rule (slice a z s) ≡ fine)
-    go (At a′ z′) o g = judged (rule (slice a′ z′ s)) a′ z′ o refl g
-    go (Bad n q) o g = never (cc)
-
-take-short : (n : ℕ) (l : List ℕ) → length (take n l) ≤ length l
-take-short zero l = omega arith
-take-short (suc n) [] = omega arith
-take-short (suc n) (x ∷ l) = let h = take-short n l in omega arith
-
--- a head ends in the slice
-head-inside : (t : ℕ) (s : List ℕ) (p e a z : ℕ) → headAt t s p e ≡ At a z → a ≤ length s
-unfolding headAt
-head-inside t s p e a z h = go (head t (slice p e s) p) refl h
-  where
-    go : (x : Res Cut) → head t (slice p e s) p ≡ x → seen x ≡ At a z → a ≤ length s
-    go (good c) o g =
-        let b = head-back t (slice p e s) p c o in
-        let n : length (slice p e s) ≡ length (take e s) - p = length-drop p (take e s) in
-        let m = take-short e s in
-        let k : length (slice p e s) ≡ before (length (c .content)) + length (c .content) + length (c .rest) =
-        ap length (b .0) ∙ length-append (tlv t (c .content)) (c .rest) ∙ ap (λ (x : ℕ). x + length (c .rest)) (length-tlv t (c .content)) in
-        let q : c .start ≡ a = cc in
-        let r = b .1 in
-        omega arith
-    go (fault n q) o g = never (cc)
-
--- a content that was taken starts in the slice
-pub rule-inside : (t : ℕ) (rule : List ℕ → Check) (s : List ℕ) (p e a z : ℕ) (h : Seen) → h ≡ ruleAt t rule s p e → h ≡ At a z → a ≤ length s
-rule-inside t rule s p e a z h j b = head-inside t s p e a z (rule-taken t rule s p e a z (sym j ∙ b) .0)
 
 -- a list whose items are counted ends where it ends
 abbrev counted : ℕ → Tally → Step
@@ -186,26 +143,7 @@ module _ (t : ℕ) (o : Bool) (n : ℕ) (g : Field) (i : Item) where
   unfolding listWalk
   whole-list s p e d = rw (sub-zero n)
 
--- two answers at once, and each of them
-both : {A : Type 0} {x y : A} {d d′ : List ℕ} → x ≡ y → d ≡ d′ → _≡_ {A = A × List ℕ} (x, d) (y, d′)
-both e f = rw (e, f) refl
-
-pub answers : {A : Type 0} {x y : A × List ℕ} → x ≡ y → x .0 ≡ y .0
-answers {A} h = ap (λ (z : A × List ℕ). z .0) h
-
-pub tables : {A : Type 0} {x y : A × List ℕ} → x ≡ y → x .1 ≡ y .1
-tables {A} h = ap (λ (z : A × List ℕ). z .1) h
-
 module _ (f : Field) (n : ℕ) (s : List ℕ) (p e : ℕ) (d : List ℕ) where
-  module _ (l : Primitive) (h : Seen) (j : h ≡ leafAt (leafOf l) s p e) where
-    pub leaf-refused : (m q : ℕ) → h ≡ Bad m q → (h, d) ≡ leafWalk (leafOf l) f n s p e d
-    unfolding leafWalk leafMarks
-    leaf-refused m q b = both j (rw (← j, b))
-
-    pub leaf-taken : (a z i : ℕ) (d′ : List ℕ) → h ≡ At a z → i ≡ leafOf l .hidden → d′ ≡ noted f n (a + i) z 0 d → (At a z, d′) ≡ leafWalk (leafOf l) f n s p e d
-    unfolding leafWalk leafMarks
-    leaf-taken a z i d′ b o g = both (sym b ∙ j) (rw (← j, b, ← o) g)
-
   -- a primitive item, noted, and where what follows it starts
   leaf-past : (l : Leaf) (h : Seen) (y : Step) (d′ : List ℕ) → (h, d′) ≡ leafWalk l f n s p e d → y ≡ pastOf h → (y, d′) ≡ itemWalk (leaf l) f n s p e d
   unfolding leafWalk itemWalk scan marks
@@ -471,22 +409,6 @@ module _ (most : ℕ) (r : Members) (s : List ℕ) (p e : ℕ) (d : List ℕ) (h
   pub record-row : (a z : ℕ) (y : Step) (d′ : List ℕ) → h ≡ At a z → (y, d′) ≡ rowWalk r 0 s a z d → (y, d′) ≡ recordWalk most r s p e d
   unfolding recordWalk rowWalk recordScan recordMarks
   record-row a z y d′ b g = both (rw (← j, b) (answers g)) (rw (← j, b) (tables g))
-
--- ---- the head of a list
-
-module _ (t : Tag) (o : Bool) (s : List ℕ) (p e : ℕ) (h : Seen) (j : h ≡ headAt (tagByte t) s p e) where
-  pub head-refused : (n q : ℕ) → h ≡ Bad n q → h ≡ listHeadAt (tagByte t) o s p e
-  unfolding listHeadAt
-  head-refused n q b = rw (← j, b)
-
-  module _ (a z : ℕ) (b : h ≡ At a z) (v : Bool) (w : v ≡ o || ltb a z) where
-    pub head-none : v ≡ false → Bad no-item p ≡ listHeadAt (tagByte t) o s p e
-    unfolding listHeadAt pick
-    head-none q = rw (← j, b, ← w, q)
-
-    pub head-some : v ≡ true → At a z ≡ listHeadAt (tagByte t) o s p e
-    unfolding listHeadAt pick
-    head-some q = rw (← j, b, ← w, q)
 
 -- ---- what each function's answers are found by
 

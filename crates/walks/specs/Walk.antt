@@ -1,34 +1,20 @@
 -- What the functions over the table answer, and the table of places after each. Assumes nothing.
 -- Nobody has to believe this page: it names what `Scan` and `Marks` say of the members of a row.
 use Prim.Native.Nat.{ℕ, _-_}
-use mathlib.Core.Bool.{Bool, _||_}
 use mathlib.Core.List.{List}
-use lib.Dec.{ltb}
 use Rattle.terms.specs.declared.Field.{Field}
-use Rattle.terms.specs.Numbers.{no-item}
-use Rattle.terms.specs.Answer.{pick}
-use Rattle.heads.specs.Scan.{headAt}
-use Rattle.heads.specs.declared.Seen.{Seen}
-use Rattle.heads.specs.declared.Seen.the-variants.{Item as At, Refused as Bad}
 use Rattle.heads.specs.declared.Step.{Step}
 use Rattle.heads.specs.declared.Step.the-variants.{Next}
 use Rattle.contents.specs.Content.{Leaf}
 use Rattle.layouts.specs.Layout.{Item, leaf, Members, Member as Part, known, maybe, flag}
-use Rattle.layouts.specs.Scan.{thenJudge, leafAt, scan, scans, scanPart, recordScan}
-use Rattle.layouts.specs.Marks.{tally, manyMarks, leafMarks, marks, marksAll, marksPart, recordMarks}
+use Rattle.layouts.specs.Scan.{scan, scans, scanPart, recordScan}
+use Rattle.layouts.specs.Marks.{tally, manyMarks, marks, marksAll, marksPart, recordMarks}
 use Rattle.layouts.specs.declared.Tally.{Tally}
 use Rattle.primitives.specs.Primitive.{leafOf, knownOf}
 use Rattle.structures.specs.Structure.{layoutOf}
 use Rattle.rows.specs.declared.Member.{Member}
 use Rattle.rows.specs.declared.Member.the-variants as member
 use Rattle.rows.specs.Row.{choiceOf}
-
--- the head of a list: 15 where it has no item and needs one
-unfoldable pub listHeadAt : ℕ → Bool → List ℕ → ℕ → ℕ → Seen
-listHeadAt t o s p e = thenJudge (headAt t s p e) λ a z. pick (o || ltb a z) (At a z) (Bad no-item p)
-
-unfoldable pub leafWalk : Leaf → Field → ℕ → List ℕ → ℕ → ℕ → List ℕ → Seen × List ℕ
-leafWalk l f k s p e d = (leafAt l s p e, leafMarks l f k s p e d)
 
 unfoldable pub itemWalk : Item → Field → ℕ → List ℕ → ℕ → ℕ → List ℕ → Step × List ℕ
 itemWalk i f k s p e d = (scan i s p e, marks i f k s p e d)

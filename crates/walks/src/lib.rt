@@ -10,54 +10,10 @@ use structures::Build;
 use structures::Row;
 use structures::Structure;
 use terms::Field;
-use terms::NO_ITEM;
 use terms::TOO_MANY_ITEMS;
 ghost use mathlib.Core.Path.{_≡_};
-ghost use Rattle.items.specs.Scan.{tagByte};
-ghost use Rattle.primitives.specs.Primitive.{leafOf};
 ghost use Rattle.structures.specs.Structure.{rowOf, layoutOf};
-ghost use Rattle.walks.specs.Walk.{listHeadAt, leafWalk, itemWalk, rowWalk, memberWalk, listWalk, recordWalk};
-
-// A primitive item under its name, and its index in a list: where its content lies, or its refusal.
-fn leaf(
-    s: &[u8],
-    primitive: Primitive,
-    name: Field,
-    index: usize,
-    at: usize,
-    end: usize,
-    places: &mut [usize],
-) -> Seen
-    ensures { λ r. ⌜ (r, now (places .exit)) ≡ leafWalk (leafOf primitive) name index (now (s .entry)) at end (now (places .entry)) ⌝ }
-{
-    let h = leaves::leaf(s, primitive, at, end);
-    let Seen::Item(a, z) = h else {
-        return h;
-    };
-    places::note(
-        places,
-        name,
-        index,
-        a + primitives::hidden_of(primitive),
-        z,
-        0,
-    );
-    Seen::Item(a, z)
-}
-
-// The head of a list: 15 if it has no item and needs one.
-fn list_head(s: &[u8], t: Tag, empty: bool, at: usize, end: usize) -> Seen
-    ensures { λ r. ⌜ r ≡ listHeadAt (tagByte t) empty (now (s .entry)) at end ⌝ }
-{
-    let h = items::head(s, t, at, end);
-    let Seen::Item(a, z) = h else {
-        return h;
-    };
-    if !windows::enough(a, z, empty) {
-        return Seen::Refused(NO_ITEM, at);
-    }
-    Seen::Item(a, z)
-}
+ghost use Rattle.walks.specs.Walk.{itemWalk, rowWalk, memberWalk, listWalk, recordWalk};
 
 // An item under its name, up to its encloser's end: where what follows it starts, or the first refusal in it.
 fn item(
@@ -73,7 +29,15 @@ fn item(
 {
     let b = structures::build_of(x);
     match b {
-        Build::Leaf(primitive) => leaves::past(leaf(s, primitive, name, index, at, end, places)),
+        Build::Leaf(primitive) => leaves::past(entries::leaf(
+            s,
+            primitive,
+            name,
+            index,
+            at,
+            end,
+            places,
+        )),
         Build::Node(t, members) => {
             let h = items::head(s, t, at, end);
             let Seen::Item(a, z) = h else {
@@ -89,7 +53,7 @@ fn item(
             name: item_name,
             each,
         } => {
-            let h = list_head(s, tag, empty, at, end);
+            let h = entries::list_head(s, tag, empty, at, end);
             let Seen::Item(a, z) = h else {
                 return leaves::past(h);
             };
@@ -142,7 +106,7 @@ fn member(s: &[u8], m: Member, index: usize, at: usize, end: usize, places: &mut
         Member::Blank => Step::Next(at),
         Member::Known(w) => leaves::past(leaves::known(s, w, at, end)),
         Member::Leaf(name, primitive) => {
-            leaves::past(leaf(s, primitive, name, index, at, end, places))
+            leaves::past(entries::leaf(s, primitive, name, index, at, end, places))
         }
         Member::Part(name, x) => item(s, x, name, index, at, end, places),
         Member::Maybe(name, x) => {
@@ -153,7 +117,15 @@ fn member(s: &[u8], m: Member, index: usize, at: usize, end: usize, places: &mut
         }
         Member::Flag(name) => {
             if leaves::begins(s, Tag::Boolean, at, end) {
-                return leaves::past(leaf(s, Primitive::Critical, name, index, at, end, places));
+                return leaves::past(entries::leaf(
+                    s,
+                    Primitive::Critical,
+                    name,
+                    index,
+                    at,
+                    end,
+                    places,
+                ));
             }
             Step::Next(at)
         }
@@ -165,7 +137,7 @@ fn member(s: &[u8], m: Member, index: usize, at: usize, end: usize, places: &mut
             first,
             second,
         } => {
-            let h = leaf(s, primitive, by, index, at, end, places);
+            let h = entries::leaf(s, primitive, by, index, at, end, places);
             let Seen::Item(a, z) = h else {
                 return leaves::past(h);
             };

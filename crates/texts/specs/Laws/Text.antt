@@ -3,15 +3,15 @@ use mathlib.Core.Path.{_≡_, refl, sym, _∙_}
 use Prim.Native.Nat.{ℕ, suc, zero, _+_, _-_, _≤_, _<_}
 use native.Mathlib.Omega.{arith}
 use native.Mathlib.Numerals.{add-one}
-use mathlib.Core.Bool.{Bool, true, false, not, _&&_}
+use mathlib.Core.Bool.{Bool, true, false, _&&_}
 use mathlib.Core.List.{List, [], _∷_}
 use lib.ListN.{length, getD, take, drop, drop-of-length-le}
 use lib.Seq.{drop-cons}
-use lib.Dec.{leb, ltb, eqb, leb→le}
+use lib.Dec.{leb, leb→le}
 use borrow.Author.Tests.{le-leb, lt-leb}
 use Rattle.terms.specs.Answer.{pick}
 use Rattle.terms.specs.Laws.Answer.{test, and-l, and-r, is-false}
-use Rattle.contents.specs.Text.{Range, within, Character, character, starts, follows, textFrom, isText, partsFrom, isIdentifier}
+use Rattle.contents.specs.Text.{Range, within, Character, character, starts, follows, textFrom, isText}
 use Rattle.texts.specs.declared.Alphabet.{Alphabet}
 use Rattle.texts.specs.declared.Rest.{Rest}
 use Rattle.texts.specs.declared.Rest.the-variants.{Complete, Due, Never}
@@ -101,34 +101,3 @@ module _ (xs : List Character) (w : List ℕ) (i : ℕ) (x : Rest) (is : isText 
 
   pub text-end : (y : Rest) (t : Bool) → length w ≤ i → x ≡ y → t ≡ textAfter xs y [] → t ≡ isText xs w
   text-end y t h e f = f ∙ sym (is ∙ rw (drop-of-length-le w h, e))
-
--- ---- an identifier: `g` is whether a part begins at `i`
-
-module _ (w : List ℕ) (i : ℕ) (g : Bool) (is : partsFrom true w ≡ partsFrom g (drop i w)) where
-  pub parts-end : length w ≤ i → g ≡ partsFrom true w
-  unfolding partsFrom
-  parts-end h = sym (is ∙ rw (drop-of-length-le w h))
-
-  parts-byte : i < length w → partsFrom true w ≡ (not (g && eqb (getD w i 0) 0x80) && partsFrom (ltb (getD w i 0) 0x80) (drop (i + 1) w))
-  unfolding partsFrom
-  parts-byte h = is ∙ rw (add-one, drop-cons w i 0)
-
-  pub parts-bad : (t : Bool) → i < length w → t ≡ g && eqb (getD w i 0) 0x80 → t ≡ true → false ≡ partsFrom true w
-  parts-bad t h e f = sym (parts-byte h ∙ rw (← e, f))
-
-  pub parts-on : (t : Bool) → i < length w → t ≡ g && eqb (getD w i 0) 0x80 → t ≡ false → partsFrom true w ≡ partsFrom (ltb (getD w i 0) 0x80) (drop (i + 1) w)
-  parts-on t h e f = parts-byte h ∙ rw (← e, f)
-
--- no byte, more than 64, or whole parts
-module _ (w : List ℕ) where
-  pub identifier-none : length w ≡ 0 → false ≡ isIdentifier w
-  unfolding isIdentifier
-  identifier-none h = rw h
-
-  pub identifier-long : 64 < length w → false ≡ isIdentifier w
-  unfolding isIdentifier
-  identifier-long h = rw (le-leb 1 (length w) (omega arith), lt-leb (length w) 64 h)
-
-  pub identifier-parts : (t : Bool) → (length w ≡ 0 → ⊥) → length w ≤ 64 → t ≡ partsFrom true w → t ≡ isIdentifier w
-  unfolding isIdentifier
-  identifier-parts t h l g = rw (le-leb 1 (length w) (omega arith), le-leb (length w) 64 l) g

@@ -1,6 +1,6 @@
 -- The Gregorian rule, case by case. Assumes nothing.
 use mathlib.Core.Path.{_≡_, sym, _∙_}
-use Prim.Native.Nat.{ℕ, suc, zero, _-_, _%_, _≤_, _<_}
+use Prim.Native.Nat.{ℕ, suc, zero, _-_, _%_, _≤_}
 use native.Mathlib.Omega.{arith}
 use mathlib.Core.Bool.{Bool, true, false, _&&_, and-true, and-false}
 use mathlib.Core.List.{List, [], _∷_}

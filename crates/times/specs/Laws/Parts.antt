@@ -10,7 +10,7 @@ use lib.ListN.{length, getD, drop, drop-of-length-le}
 use lib.Seq.{drop-cons, drop-drop}
 use lib.Dec.{T, leb, leb→le, ltb→lt, le→leb, lt→ltb, leb·suc-suc}
 use borrow.Author.Tests.{le-leb, lt-leb, not-true, not-false}
-use Rattle.terms.specs.Answer.{Res, good, fault, Got, pick, need}
+use Rattle.terms.specs.Answer.{pick, need}
 use Rattle.terms.specs.Laws.Answer.{never, test, and-l, and-r, both, is-true, is-false, pick-yes, pick-no}
 use Rattle.contents.specs.Time.{possible, isDigit, partFrom}
 use Rattle.times.specs.declared.Parsed.{Parsed}

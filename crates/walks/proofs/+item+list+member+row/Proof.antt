@@ -31,8 +31,8 @@ use Rattle.places.proofs.note.Reads as note-reads
 use Rattle.structures.proofs.build_of.Reads as build-of-reads
 use Rattle.rows.proofs.members_of.Reads as members-of-reads
 use Rattle.structures.proofs.tag_of.Reads as tag-of-reads
-use Rattle.walks.proofs.leaf.Reads as leaf-reads
-use Rattle.walks.proofs.list_head.Reads as list-head-reads
+use Rattle.entries.proofs.leaf.Reads as leaf-reads
+use Rattle.entries.proofs.list_head.Reads as list-head-reads
 use Rattle.walks.proofs.+item+list+member+row.{statement}
 use Rattle.walks.proofs.+item+list+member+row.Tie.{close}
 

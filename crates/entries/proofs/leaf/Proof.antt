@@ -1,8 +1,8 @@
--- `walks::leaf`: what was taken is noted past the bytes that are never handed out.
+-- `entries::leaf`: what was taken is noted past the bytes that are never handed out.
 use borrow.Author.Needs.{needs}
-use Rattle.walks.specs.Laws.{leaf-refused, leaf-taken, rule-inside}
-use Rattle.walks.proofs.leaf.Statement.{statement}
-use Rattle.walks.proofs.leaf.Tie as tie
+use Rattle.entries.specs.Laws.{leaf-refused, leaf-taken, rule-inside}
+use Rattle.entries.proofs.leaf.Statement.{statement}
+use Rattle.entries.proofs.leaf.Tie as tie
 
 leaf-requires : tie.Need-leaf-requires
 leaf-requires c κs = search needs

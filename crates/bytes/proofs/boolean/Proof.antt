@@ -1,8 +1,8 @@
--- `texts::boolean`: the rule asks only whether the content is FF alone.
-use Rattle.texts.specs.Laws.Rules.{boolean-rule}
+-- `bytes::boolean`: the rule asks only whether the content is FF alone.
+use Rattle.bytes.specs.Laws.{boolean-rule}
 use borrow.Author.Needs.{needs}
-use Rattle.texts.proofs.boolean.Statement.{statement}
-use Rattle.texts.proofs.boolean.Tie as tie
+use Rattle.bytes.proofs.boolean.Statement.{statement}
+use Rattle.bytes.proofs.boolean.Tie as tie
 
 window-requires : tie.Need-window-requires
 window-requires c κs = search needs

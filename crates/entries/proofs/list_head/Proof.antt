@@ -1,9 +1,9 @@
--- `walks::list_head`: the head, then whether an item stands in it.
+-- `entries::list_head`: the head, then whether an item stands in it.
 use borrow.Author.Tests.{not-true, not-false}
-use Rattle.walks.specs.Laws.{head-refused, head-none, head-some}
+use Rattle.entries.specs.Laws.{head-refused, head-none, head-some}
 use borrow.Author.Needs.{needs}
-use Rattle.walks.proofs.list_head.Statement.{statement}
-use Rattle.walks.proofs.list_head.Tie as tie
+use Rattle.entries.proofs.list_head.Statement.{statement}
+use Rattle.entries.proofs.list_head.Tie as tie
 
 head-requires : tie.Need-head-requires
 head-requires c κs = search needs

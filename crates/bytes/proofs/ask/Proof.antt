@@ -1,7 +1,7 @@
--- `texts::ask`: each return is one case of the definition.
+-- `bytes::ask`: each return is one case of the definition.
 use Rattle.contents.specs.Content.{ask, placeOf}
-use Rattle.texts.proofs.ask.Statement.{statement}
-use Rattle.texts.proofs.ask.Tie as tie
+use Rattle.bytes.proofs.ask.Statement.{statement}
+use Rattle.bytes.proofs.ask.Tie as tie
 
 returns : tie.Need-returns
 unfolding ask

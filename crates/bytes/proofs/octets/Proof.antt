@@ -1,8 +1,8 @@
--- `texts::octets`: the rule asks only whether a byte that is needed is there.
-use Rattle.texts.specs.Laws.Rules.{octets-rule}
+-- `bytes::octets`: the rule asks only whether a byte that is needed is there.
+use Rattle.bytes.specs.Laws.{octets-rule}
 use borrow.Author.Needs.{needs}
-use Rattle.texts.proofs.octets.Statement.{statement}
-use Rattle.texts.proofs.octets.Tie as tie
+use Rattle.bytes.proofs.octets.Statement.{statement}
+use Rattle.bytes.proofs.octets.Tie as tie
 
 window-requires : tie.Need-window-requires
 window-requires c κs = search needs

@@ -1,8 +1,8 @@
--- `texts::bits`: the rule has a case for no byte, and else asks the two tests.
-use Rattle.texts.specs.Laws.Rules.{bits-none, bits-rule}
+-- `bytes::bits`: the rule has a case for no byte, and else asks the two tests.
+use Rattle.bytes.specs.Laws.{bits-none, bits-rule}
 use borrow.Author.Needs.{needs}
-use Rattle.texts.proofs.bits.Statement.{statement}
-use Rattle.texts.proofs.bits.Tie as tie
+use Rattle.bytes.proofs.bits.Statement.{statement}
+use Rattle.bytes.proofs.bits.Tie as tie
 
 window-requires : tie.Need-window-requires
 window-requires c κs = search needs
