@@ -239,6 +239,8 @@ identifiers =
     (toldCheck (identifierRule (0x2A ∷ 0x81 ∷ 0x1C ∷ 0xCF ∷ 0x55 ∷ 0x01 ∷ 0x83 ∷ 0x75 ∷ [])), told-none done)
     ∷ (toldCheck (identifierRule (0x00 ∷ [])), told-none done)
     ∷ (toldCheck (identifierRule (0x2A ∷ 0x81 ∷ 0x00 ∷ [])), told-none done)
+    -- a part with 80 inside and 7F at its end, a part of 7F
+    ∷ (toldCheck (identifierRule (0x2A ∷ 0x81 ∷ 0x80 ∷ 0x7F ∷ 0x7F ∷ [])), told-none done)
     ∷ (toldCheck (identifierRule (replicate 64 0x2A)), told-none done)
     ∷ (toldCheck (identifierRule ([])), gets bad-identifier)
     ∷ (toldCheck (identifierRule (replicate 65 0x2A)), gets bad-identifier)
