@@ -16,7 +16,8 @@ use Rattle.contents.specs.Leaves.{octetString}
 use Rattle.layouts.specs.Layout.{Members, end, _▸_, leaf, node, list, one, maybe, flag, choose, each, option, either, critical, encode}
 use Rattle.layouts.specs.Reading.{readBy, begins, finish, many, readOption, readFlag, readEither, read}
 use Rattle.layouts.specs.Sheet.{count, section, criticalByte, sheetOption, sheetList, sheet, readCount, readSection, fillLeaf, times, criticalIn, fillFlag, fillOption, fillList, fill}
-use Rattle.layouts.specs.Whole.{sequence, recordOf, recordAt, accept, finishSheet, acceptSheet, fit, fillSheet, writeRecord, stored}
+use Rattle.layouts.specs.Whole.{sequence, recordOf, recordAt, accept, finishSheet, acceptSheet, fit, fillSheet, writeRecord, stored, toldOutcome}
+use Rattle.layouts.specs.declared.Outcome.the-variants.{Length, Refused}
 
 evaluate : Unit {0}
 unfolding pick bind need have every enough same sameNumber sameNumbers sameTold agree digits numberFrom leading spell octets tlv unspell size opening cut head outermost ask placeOf judge octetsRule booleanRule each option either critical encode readBy begins finish many readOption readFlag readEither read count section criticalByte sheetOption sheetList sheet readCount readSection fillLeaf times criticalIn fillFlag fillOption fillList fill recordAt accept finishSheet acceptSheet fit fillSheet writeRecord stored
@@ -31,9 +32,12 @@ small =
 abbrev accepted : List ℕ → Told
 accepted w = answered (λ v. length (recordOf small v)) (accept 100 small w)
 
--- the bytes of a sheet that a record fills
+-- the bytes of a sheet that a record of at most `most` bytes fills, into `room`
+abbrev filledAtMost : ℕ → List ℕ → ℕ → Told
+filledAtMost most w room = answered (λ x. length x) (fillSheet most small w room)
+
 abbrev filled : List ℕ → Told
-filled w = answered (λ x. length x) (fillSheet 100 small w 100)
+filled w = filledAtMost 100 w 100
 
 -- a record whose first string is 01, and what stands behind its second
 abbrev of1 : ℕ → List ℕ → List ℕ
@@ -56,6 +60,13 @@ rows =
     -- absent and empty have different sheets: 5 + 5 + 5 + 4, and one count more
     ∷ (filled (of1 6 []), told-one done 19)
     ∷ (filled (of1 8 (0x30 ∷ 0x00 ∷ [])), told-one done 23)
+    -- "A reader that fills a sheet gives 20 after all else."
+    ∷ (filledAtMost 8 (of1 6 []) 19, told-one done 19)
+    ∷ (filledAtMost 8 (of1 6 []) 18, refusal no-room 19)
+    ∷ (filledAtMost 7 (of1 6 []) 18, refusal too-large 0)
+    -- the code's answer in numbers
+    ∷ (toldOutcome (Length 165), told-one 0 165)
+    ∷ (toldOutcome (Refused 5 165), refusal 5 165)
     ∷ []
 
 small-records : asks rows ≡ answers rows
