@@ -4,7 +4,8 @@ use Prim.Native.Nat.{ℕ}
 use mathlib.Core.Bool.{true}
 use mathlib.Core.List.{List, [], _∷_, _++_}
 use lib.ListN.{length, replicate, set, take, drop}
-use Rattle.terms.specs.declared.Field.the-variants.{ListKind, CertificateList, ListedDigest, SealCustomData, SealCustomItem, SealCustomCritical}
+use Rattle.terms.specs.declared.Field.the-variants.{Header, ListKind, CertificateList, ListedDigest, SealCustomData, SealCustomItem, SealCustomCritical, Stamp}
+use Rattle.terms.specs.Names.{code}
 use Rattle.terms.specs.Numbers.{done, other-tag, bad-boolean, left-over, too-many-items, too-large, bad-sheet, no-room}
 use Rattle.terms.specs.Answer.{good, pick, bind, need, have, every, enough, same, Told, told-one, refusal, answered, never-empty}
 use Rattle.terms.specs.Digits.{digits, numberFrom, leading}
@@ -17,6 +18,7 @@ use Rattle.layouts.specs.Layout.{Members, end, _▸_, leaf, node, list, 
 use Rattle.layouts.specs.Reading.{readBy, begins, finish, many, readOption, readFlag, readEither, read}
 use Rattle.layouts.specs.Sheet.{count, section, criticalByte, sheetOption, sheetList, sheet, readCount, readSection, fillLeaf, times, criticalIn, fillFlag, fillOption, fillList, fill}
 use Rattle.layouts.specs.Whole.{sequence, recordOf, recordAt, accept, finishSheet, acceptSheet, fit, fillSheet, writeRecord, stored, toldOutcome}
+use Rattle.layouts.specs.Places.{table-size, slot, under, wanted}
 use Rattle.layouts.specs.declared.Outcome.the-variants.{Length, Refused}
 
 evaluate : Unit {0}
@@ -150,3 +152,9 @@ writings =
 small-sheets : asks writings ≡ answers writings
 unfolding evaluate
 small-sheets = agreed writings tt
+
+-- ---- the table of places: four numbers under each of 43 names, then the index that is wanted
+
+places : under Header (0 ∷ 1 ∷ 2 ∷ 3 ∷ 4 ∷ 5 ∷ 6 ∷ 7 ∷ []) ++ slot Stamp ∷ wanted (replicate 172 0 ++ 9 ∷ []) ∷ table-size ∷ [] ≡ 4 ∷ 5 ∷ 6 ∷ 7 ∷ 168 ∷ 9 ∷ 173 ∷ []
+unfolding under slot wanted code
+places = refl
