@@ -1,5 +1,5 @@
 -- The rules of contents, with 01's order of refusals in each: "6 before 7, 12 before 14, 14 and 9 before 8". Assumes nothing.
-use mathlib.Core.Bool.{Bool, true, false}
+use mathlib.Core.Bool.{Bool}
 use mathlib.Core.List.{List, [], _∷_}
 use Prim.Native.Nat.{ℕ}
 use lib.Dec.{eqb}

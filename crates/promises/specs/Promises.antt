@@ -4,7 +4,7 @@
 use mathlib.Core.Path.{_≡_, refl, sym, ap, _∙_, subst}
 use mathlib.Core.Bool.{Bool, false, not, _&&_}
 use mathlib.Core.Option.{some}
-use mathlib.Core.List.{List, [], _++_}
+use mathlib.Core.List.{List, [], _∷_, _++_}
 use Prim.Native.Nat.{ℕ, _+_, _≤_, _<_}
 use native.Mathlib.Omega.{arith}
 use lib.ListN.{length, getD, take, drop}
@@ -14,7 +14,7 @@ use borrow.Author.Tests.{lt-leb}
 use Rattle.terms.specs.declared.Field.{Field}
 use Rattle.terms.specs.declared.Field.the-variants.{SignedPart, SealInformation}
 use Rattle.terms.specs.Numbers.{largest-record, too-large, no-room, unreal-time, done, run-end}
-use Rattle.terms.specs.Answer.{Res, good, fault, Got, got, bind, need, every, answered, bit, Told, told-one, told-two, told-none, refusal}
+use Rattle.terms.specs.Answer.{Res, good, fault, Got, got, bind, need, every, answered, bit, Told, gives, told-one, told-two, told-none, refusal}
 use Rattle.terms.specs.Laws.Answer.{good-inj, and-r, bind-eq, need-eq}
 use Rattle.terms.specs.Digits.{isByte}
 use Rattle.contents.specs.Integer.{value, contentOf, wellFormed, Fits, eight, stretch}
@@ -29,7 +29,7 @@ use Rattle.layouts.specs.Laws.Whole.{Wrote, Kept}
 use Rattle.layouts.specs.Laws.Whole as Whole
 use Rattle.layouts.specs.Laws.Fields.{fields-stand, first-sought, first-holds}
 use Rattle.records.specs.Record.{sealInformation, seal, signedPart, signature}
-use Rattle.records.specs.Handing.{readRecord, recordAnswer, fieldsIn, fillAnswer, fillAfter, writeAnswer, writeAfter, isAmong, toldPlace, partNames, fieldAnswer, isListed, matchAnswer, integerNames, toldValue, valueAnswer, isOwner, toldCritical, criticalAnswer, listNames, toldCount, countAnswer, signedBytes, informationOf, signedPartOf, sealOf}
+use Rattle.records.specs.Handing.{readRecord, recordAnswer, fieldsIn, fillAnswer, fillAfter, writeAnswer, writeAfter, isAmong, toldPlace, partNames, fieldAnswer, isListed, matchAnswer, integerNames, valueAnswer, isOwner, toldCritical, criticalAnswer, listNames, countAnswer, signedBytes, informationOf, signedPartOf, sealOf}
 use Rattle.records.specs.Laws.Record as Record
 use Rattle.records.specs.Laws.Handing.{Tells}
 use Rattle.records.specs.Laws.Handing as Handing
@@ -110,18 +110,18 @@ module _ (r : Members) (k : Clear r) where
     equal-is-the-given given x t = Handing.listed-is given x t
 
     -- "Integers and critical come as values."
-    pub value-is-the-field's : (f : Field) → Told-of (isAmong integerNames f 0) toldValue (valueAnswer r f w)
+    pub value-is-the-field's : (f : Field) → Told-of (isAmong integerNames f 0) (λ x. gives done (value (x .bytes) ∷ [])) (valueAnswer r f w)
     unfolding valueAnswer
-    value-is-the-field's f = Handing.told-first r w v e (fields-stand-there w v e) (isAmong integerNames f 0) toldValue
+    value-is-the-field's f = Handing.told-first r w v e (fields-stand-there w v e) (isAmong integerNames f 0) _
 
     pub critical-is-the-item's : (f : Field) (i : ℕ) → Told-of (isOwner f i) (toldCritical f i (fields r v)) (criticalAnswer r f i w)
     unfolding criticalAnswer
     critical-is-the-item's f i = rw (Handing.fields-in r w v e) (Handing.told-first r w v e (fields-stand-there w v e) (isOwner f i) (toldCritical f i (fields r v)))
 
     -- "Absent and present-with-no-items are different field values."
-    pub count-is-the-list's : (f : Field) → Told-of (isAmong listNames f 0) toldCount (countAnswer r f w)
+    pub count-is-the-list's : (f : Field) → Told-of (isAmong listNames f 0) (λ x. told-one done (x .items)) (countAnswer r f w)
     unfolding countAnswer
-    count-is-the-list's f = Handing.told-first r w v e (fields-stand-there w v e) (isAmong listNames f 0) toldCount
+    count-is-the-list's f = Handing.told-first r w v e (fields-stand-there w v e) (isAmong listNames f 0) _
 
   -- a refused record answers every question with its refusal
   pub refused-is-told : (w : List ℕ) (n p : ℕ) → readRecord r w ≡ fault n p → (f : Field) (i : ℕ) (given : List ℕ)

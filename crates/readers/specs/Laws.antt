@@ -11,7 +11,7 @@ use Rattle.heads.specs.declared.Seen.the-variants.{Item as At, Refused as Bad}
 use Rattle.heads.specs.declared.Step.{Step}
 use Rattle.heads.specs.declared.Step.the-variants.{Next, Refused}
 use Rattle.layouts.specs.Layout.{Members, Values}
-use Rattle.layouts.specs.Scan.{thenSeen, closeAt, scans, recordScan, wholeScan}
+use Rattle.layouts.specs.Scan.{closeAt, recordScan, wholeScan}
 use Rattle.layouts.specs.Laws.Scan.{whole, whole-accept}
 use Rattle.layouts.specs.Whole.{sequence, accept, toldOutcome}
 use Rattle.layouts.specs.declared.Outcome.{Outcome}

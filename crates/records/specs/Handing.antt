@@ -36,25 +36,18 @@ readRecord r w = accept largest-record r w
 abbrev pub recordAnswer : Members → List ℕ → Told
 recordAnswer r w = toldRecord largest-record r w
 
--- what is filled from a record, and written from a sheet, into a destination of `room` bytes
-abbrev pub fillFrom : Members → List ℕ → ℕ → Res (List ℕ)
-fillFrom r w room = fillSheet largest-record r w room
-
-abbrev pub writeFrom : Members → List ℕ → ℕ → Res (List ℕ)
-writeFrom r x room = writeRecord largest-record r x room
-
--- the answer, and the bytes of the destination `d` after it
+-- a sheet filled from a record, and a record written from a sheet: the answer, and the bytes of the destination `d` after it
 unfoldable pub fillAnswer : Members → List ℕ → List ℕ → Told
-fillAnswer r w d = answered (λ x. length x) (fillFrom r w (length d))
+fillAnswer r w d = answered (λ x. length x) (fillSheet largest-record r w (length d))
 
 unfoldable pub fillAfter : Members → List ℕ → List ℕ → List ℕ
-fillAfter r w d = stored (fillFrom r w (length d)) d
+fillAfter r w d = stored (fillSheet largest-record r w (length d)) d
 
 unfoldable pub writeAnswer : Members → List ℕ → List ℕ → Told
-writeAnswer r x d = answered (λ w. length w) (writeFrom r x (length d))
+writeAnswer r x d = answered (λ w. length w) (writeRecord largest-record r x (length d))
 
 unfoldable pub writeAfter : Members → List ℕ → List ℕ → List ℕ
-writeAfter r x d = stored (writeFrom r x (length d)) d
+writeAfter r x d = stored (writeRecord largest-record r x (length d)) d
 
 -- ---- asking for a field
 
@@ -122,11 +115,8 @@ matchAnswer r given w = tell toldPlace (matchIn r given w)
 abbrev pub integerNames : List Field
 integerNames = SealType ∷ ListKind ∷ Width ∷ Height ∷ []
 
-abbrev pub toldValue : Entry → Told
-toldValue x = gives done (value (x .bytes) ∷ [])
-
 unfoldable pub valueAnswer : Members → Field → List ℕ → Told
-valueAnswer r f w = tell toldValue (seek r (isAmong integerNames f 0) w)
+valueAnswer r f w = tell (λ x. gives done (value (x .bytes) ∷ [])) (seek r (isAmong integerNames f 0) w)
 
 -- the custom item that a critical belongs to
 unfoldable pub isOwner : Field → ℕ → Entry → Bool
@@ -143,11 +133,8 @@ criticalAnswer r f k w = tell (toldCritical f k (fieldsIn r w)) (seek r (isOwner
 abbrev pub listNames : List Field
 listNames = CertificateList ∷ SealCustomData ∷ SignedCustomData ∷ []
 
-abbrev pub toldCount : Entry → Told
-toldCount x = told-one done (x .items)
-
 unfoldable pub countAnswer : Members → Field → List ℕ → Told
-countAnswer r f w = tell toldCount (seek r (isAmong listNames f 0) w)
+countAnswer r f w = tell (λ x. told-one done (x .items)) (seek r (isAmong listNames f 0) w)
 
 -- ---- signed bytes
 

@@ -115,9 +115,6 @@ signer-out-at-stamp = 34
 abbrev pub done : ℕ
 done = 0
 
-abbrev pub no-findings : ℕ
-no-findings = 253
-
 abbrev pub absent : ℕ
 absent = 254
 

@@ -9,7 +9,7 @@ use Rattle.terms.specs.Laws.Table.{Row, asks, answers, agreed}
 use Rattle.contents.specs.Time.{notLater, momentIn, momentOf, written, isReal}
 use Rattle.records.specs.Samples.{recordS, recordD}
 use Rattle.records.specs.Examples.{evaluate, sealS}
-use Rattle.verdicts.specs.Findings.{between, withinDates, revokedBy, inForce, withdrawnBy, sound, stampGood, atStamp, revocationTimes, certificateTimes, stampTimes, timesOf, allReal}
+use Rattle.verdicts.specs.Findings.{between, withinDates, revokedBy, inForce, withdrawnBy, sound, atStamp, revocationTimes, certificateTimes, stampTimes, timesOf, allReal}
 use Rattle.verdicts.specs.Verdict.{orElse, firstFailing, the, timeOf, inPeriod, sought, signerListed, stamped, makerOut, judged, weigh, verdict, signatureVerdict, sealVerdict, toldVerdict}
 use Rattle.verdicts.specs.declared.Revocation.{Revocation}
 use Rattle.verdicts.specs.declared.Revocation.the-variants.{Never, At}
@@ -20,7 +20,7 @@ use Rattle.verdicts.specs.declared.Findings.{Findings}
 
 -- to name this one on a line is to name all that a verdict computes with
 unfoldable pub evaluateVerdict : Unit {0}
-unfolding evaluate notLater momentIn momentOf written isReal between withinDates revokedBy inForce withdrawnBy sound stampGood atStamp revocationTimes certificateTimes stampTimes timesOf allReal orElse firstFailing the timeOf inPeriod sought signerListed stamped makerOut judged weigh verdict
+unfolding evaluate notLater momentIn momentOf written isReal between withinDates revokedBy inForce withdrawnBy sound atStamp revocationTimes certificateTimes stampTimes timesOf allReal orElse firstFailing the timeOf inPeriod sought signerListed stamped makerOut judged weigh verdict
 evaluateVerdict = tt
 
 -- ---- findings

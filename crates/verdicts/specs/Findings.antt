@@ -1,6 +1,6 @@
 -- The findings, and what they say at a moment (01, "Findings and verdicts"). Assumes nothing.
 use Prim.Native.Nat.{ℕ}
-use mathlib.Core.Bool.{Bool, true, false, not, _&&_}
+use mathlib.Core.Bool.{Bool, false, not, _&&_}
 use mathlib.Core.List.{List, [], _∷_, _++_}
 use Rattle.terms.specs.Answer.{every}
 use Rattle.contents.specs.Time.{Moment, notLater, momentAt, isReal}
@@ -38,13 +38,7 @@ withdrawnBy s t = revokedBy (s .withdrawn) t
 unfoldable pub sound : CertificateFacts → Bool
 sound c = c .chain && c .usage
 
--- the stamp is good at a time
-unfoldable pub stampGood : Stamping → Bool
-stampGood Unchecked = false
-stampGood Bad = false
-stampGood (Good t) = true
-
--- and something fails at that time
+-- the stamp is good at a time, and that time passes a test
 unfoldable pub atStamp : Stamping → (Moment → Bool) → Bool
 atStamp Unchecked f = false
 atStamp Bad f = false

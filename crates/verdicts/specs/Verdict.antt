@@ -13,7 +13,7 @@ use Rattle.layouts.specs.Layout.{Members, Values}
 use Rattle.layouts.specs.Fields.{Entry, fields, isField, first, bytesIn, isThere}
 use Rattle.records.specs.Record.{seal, signature}
 use Rattle.records.specs.Handing.{readRecord, isListed}
-use Rattle.verdicts.specs.Findings.{between, withinDates, revokedBy, inForce, withdrawnBy, sound, stampGood, atStamp, allReal}
+use Rattle.verdicts.specs.Findings.{between, withinDates, revokedBy, inForce, withdrawnBy, sound, atStamp, allReal}
 use Rattle.verdicts.specs.declared.Findings.{Findings}
 use Rattle.verdicts.specs.declared.Verdict.{Verdict}
 use Rattle.verdicts.specs.declared.Verdict.the-variants.{Judged, Refused}
@@ -107,7 +107,7 @@ signatureSteps =
     ∷ step signer-revoked with-notice (λ x. revokedBy (x .found .signer .revocation) (signing x))
     -- g, h
     ∷ step digest-differs with-notice (λ x. not (same (x .originalDigest) (the OriginalDigest x)))
-    ∷ step stamp-bad with-notice (λ x. stamped x && not (stampGood (x .found .stamp .state)))
+    ∷ step stamp-bad with-notice (λ x. stamped x && not (atStamp (x .found .stamp .state) (λ t. true)))
     ∷ step after-stamp with-notice (λ x. stamped x && atStamp (x .found .stamp .state) (λ t. not (notLater (signing x) t)))
     ∷ step signer-out-at-stamp with-notice (λ x. stamped x && atStamp (x .found .stamp .state) (λ t. not (inForce (x .found .signer) t)))
     ∷ []
