@@ -3,7 +3,7 @@
 -- A record is a seal or a signature record: `seal` and `signature` are the layouts of document 01, `v` is a record's field values.
 use mathlib.Core.Path.{_≡_, refl, sym, ap, _∙_, subst}
 use mathlib.Core.Bool.{Bool, false, not, _&&_}
-use mathlib.Core.Option.{some}
+use mathlib.Core.Option.{none, some}
 use mathlib.Core.List.{List, [], _∷_, _++_}
 use Prim.Native.Nat.{ℕ, _+_, _≤_, _<_}
 use native.Mathlib.Omega.{arith}
@@ -33,7 +33,7 @@ use Rattle.records.specs.Handing.{readRecord, recordAnswer, fieldsIn, fillAnswe
 use Rattle.records.specs.Laws.Record as Record
 use Rattle.records.specs.Laws.Handing.{Tells}
 use Rattle.records.specs.Laws.Handing as Handing
-use Rattle.runs.specs.Run.{runOf, whole, stopped, readRun, Reader, hereAt, hereOf, taken, ended, faulty, top, oneMore, stepAfter, stepAnswer, refusal-after}
+use Rattle.runs.specs.Run.{runOf, whole, stopped, readRun, Reader, hereAt, top, oneMore, stepAfter, stepAnswer, refusal-after}
 use Rattle.runs.specs.Laws.Run as Runs
 use Rattle.verdicts.specs.Verdict.{Step, firstFailing, Facts, factsOf, Rulebook, signatureRules, sealRules, makerOut, judged, verdict, toldVerdict}
 use Rattle.verdicts.specs.Findings.{allReal}
@@ -220,21 +220,21 @@ module _ (r : Members) (k : Clear r) where
 
   -- a refused run: the records before the fault are what stands there, and the run reader stops at the same fault
   pub refused-run-stops : (w : List ℕ) (vs : List (Values r)) (n p : ℕ) → readRun r w ≡ stopped vs n p
-      → (rest : List ℕ) × (w ≡ runOf r vs ++ rest) × All (Right r) vs × (hereAt r w (length (runOf r vs)) ≡ faulty n p)
+      → (rest : List ℕ) × (w ≡ runOf r vs ++ rest) × All (Right r) vs × (hereAt r w (length (runOf r vs)) ≡ fault n p)
   refused-run-stops w vs n p e = Runs.run-stops r w vs n p e
 
   -- the run reader, at every position: the end at the end and past it, else what stands there, read as a record
-  pub reader-ends : (s : List ℕ) (p : ℕ) → length s ≤ p → hereAt r s p ≡ ended
+  pub reader-ends : (s : List ℕ) (p : ℕ) → length s ≤ p → hereAt r s p ≡ good none
   reader-ends s p h = Runs.here-end r s p h
 
-  pub reader-reads : (s : List ℕ) (p : ℕ) → p < length s → hereAt r s p ≡ hereOf (recordAt largest-record r (drop p s) p)
+  pub reader-reads : (s : List ℕ) (p : ℕ) → p < length s → hereAt r s p ≡ (bind (recordAt largest-record r (drop p s) p) λ a. good (some a))
   reader-reads s p h = Runs.here-inside r s p h
 
   -- it takes a right record where one stands, and what it takes is one
-  pub reader-takes-a-record : (s p : List ℕ) (v : Values r) (w : List ℕ) → Right r v → s ≡ p ++ (recordOf r v ++ w) → hereAt r s (length p) ≡ taken (got v w (length p + length (recordOf r v)))
+  pub reader-takes-a-record : (s p : List ℕ) (v : Values r) (w : List ℕ) → Right r v → s ≡ p ++ (recordOf r v ++ w) → hereAt r s (length p) ≡ good (some (got v w (length p + length (recordOf r v))))
   reader-takes-a-record s p v w ok e = Runs.here-there r inner s p v w ok e
 
-  pub reader-takes-only-records : (s : List ℕ) (p : ℕ) (a : Got (Values r)) → hereAt r s p ≡ taken a → (drop p s ≡ recordOf r (a .value) ++ a .rest) × Right r (a .value) × (a .after ≡ p + length (recordOf r (a .value)))
+  pub reader-takes-only-records : (s : List ℕ) (p : ℕ) (a : Got (Values r)) → hereAt r s p ≡ good (some a) → (drop p s ≡ recordOf r (a .value) ++ a .rest) × Right r (a .value) × (a .after ≡ p + length (recordOf r (a .value)))
   reader-takes-only-records s p a e = Runs.here-back r s p a e
 
   -- it hands a record out where it stands, and goes on behind it with one more handed out; at the end and at a fault it stays
@@ -245,7 +245,7 @@ module _ (r : Members) (k : Clear r) where
   pub reader-stays-at-the-end : (s : List ℕ) (x : Reader) → length s ≤ x .position → (stepAnswer r s x ≡ told-none run-end) × (stepAfter r s x ≡ x)
   reader-stays-at-the-end s x h = Runs.step-ends r s x (reader-ends s (x .position) h)
 
-  pub reader-stays-at-a-fault : (s : List ℕ) (x : Reader) (n p : ℕ) → hereAt r s (x .position) ≡ faulty n p → (stepAnswer r s x ≡ refusal-after n p (x .handed)) × (stepAfter r s x ≡ x)
+  pub reader-stays-at-a-fault : (s : List ℕ) (x : Reader) (n p : ℕ) → hereAt r s (x .position) ≡ fault n p → (stepAnswer r s x ≡ refusal-after n p (x .handed)) × (stepAfter r s x ≡ x)
   reader-stays-at-a-fault s x n p h = Runs.step-faults r s x n p h
 
   -- a whole walk, from a reader that was made: it hands out the records of the list in order, each with its place, and then answers the end for ever,

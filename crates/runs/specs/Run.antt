@@ -1,11 +1,12 @@
 -- A run: accepted records end to end, none or many (01, "Refusal numbers" and "Handing out"). Assumes nothing.
 use Prim.Native.Nat.{ℕ, suc, zero, _+_, _-_, _^_}
+use mathlib.Core.Option.{Option, none, some}
 use mathlib.Core.List.{List, [], _∷_}
 use lib.ListN.{length, drop}
 use lib.IntN.{pos}
 use lib.Dec.{ltb}
 use Rattle.terms.specs.Numbers.{done, run-end, largest-record}
-use Rattle.terms.specs.Answer.{Res, good, fault, Got, pick, Told, refuses, told-one, told-two, told-none}
+use Rattle.terms.specs.Answer.{Res, good, fault, Got, pick, bind, Told, refuses, told-one, told-two, told-none}
 use Rattle.layouts.specs.Layout.{Members, Values, each}
 use Rattle.layouts.specs.Whole.{recordOf, recordAt}
 use Rattle.runs.specs.declared.Stepped.{Stepped}
@@ -65,22 +66,13 @@ pub record Reader : Type 0 where
 abbrev pub made : Reader
 made = record { position = 0; handed = 0 }
 
--- what stands at a position: a record, the end, or a fault
-pub data Here (A : Type 0) : Type 0 where
-  taken : Got A → Here A
-  ended : Here A
-  faulty : ℕ → ℕ → Here A
-
-abbrev pub hereOf : {A : Type 0} → Res (Got A) → Here A
-hereOf (good a) = taken a
-hereOf (fault n p) = faulty n p
-
-unfoldable pub hereIn : (r : Members) → List ℕ → ℕ → Here (Values r)
-hereIn r [] p = ended
-hereIn r (x ∷ w) p = hereOf (recordAt largest-record r (x ∷ w) p)
+-- what stands at a position: a record, none at the end, or a fault
+unfoldable pub hereIn : (r : Members) → List ℕ → ℕ → Res (Option (Got (Values r)))
+hereIn r [] p = good none
+hereIn r (x ∷ w) p = bind (recordAt largest-record r (x ∷ w) p) λ a. good (some a)
 
 -- "At any other position it reads as if a record began there, past the end as at the end"
-unfoldable pub hereAt : (r : Members) → List ℕ → ℕ → Here (Values r)
+unfoldable pub hereAt : (r : Members) → List ℕ → ℕ → Res (Option (Got (Values r)))
 hereAt r s p = hereIn r (drop p s) p
 
 -- its number's type: u64
@@ -92,18 +84,18 @@ unfoldable pub oneMore : ℕ → ℕ
 oneMore n = pick (ltb n top) (n + 1) n
 
 -- "at the end, or at a fault, it stays and repeats that answer"
-abbrev pub afterHere : {A : Type 0} → Here A → Reader → Reader
-afterHere (taken a) x = record { position = a .after; handed = oneMore (x .handed) }
-afterHere ended x = x
-afterHere (faulty n p) x = x
+abbrev pub afterHere : {A : Type 0} → Res (Option (Got A)) → Reader → Reader
+afterHere (good (some a)) x = record { position = a .after; handed = oneMore (x .handed) }
+afterHere (good none) x = x
+afterHere (fault n p) x = x
 
 unfoldable pub stepAfter : (r : Members) → List ℕ → Reader → Reader
 stepAfter r s x = afterHere (hereAt r s (x .position)) x
 
-abbrev pub toldHere : {A : Type 0} → Here A → Reader → Told
-toldHere (taken a) x = told-two done (x .position) (a .after - x .position)
-toldHere ended x = told-none run-end
-toldHere (faulty n p) x = refusal-after n p (x .handed)
+abbrev pub toldHere : {A : Type 0} → Res (Option (Got A)) → Reader → Told
+toldHere (good (some a)) x = told-two done (x .position) (a .after - x .position)
+toldHere (good none) x = told-none run-end
+toldHere (fault n p) x = refusal-after n p (x .handed)
 
 unfoldable pub stepAnswer : (r : Members) → List ℕ → Reader → Told
 stepAnswer r s x = toldHere (hereAt r s (x .position)) x

@@ -2,20 +2,21 @@
 use mathlib.Core.Path.{_≡_, refl, sym, ap, _∙_, subst}
 use Prim.Native.Nat.{ℕ, suc, zero, _+_, _-_, _≤_, _<_}
 use native.Mathlib.Omega.{arith}
+use mathlib.Core.Option.{none, some}
 use mathlib.Core.List.{List, [], _∷_, _++_, append-assoc, append-nil}
 use lib.ListN.{length, drop, replicate, length-append}
 use lib.Seq.{drop-at, drop-cons}
 use lib.Dec.{T, ltb, lt→ltb}
 use Rattle.terms.specs.Numbers.{largest-record, done, run-end}
-use Rattle.terms.specs.Answer.{Res, good, fault, Got, got, Told, told-two, told-none}
-use Rattle.terms.specs.Laws.Answer.{pick-yes}
+use Rattle.terms.specs.Answer.{Res, good, fault, Got, got, bind, Told, told-two, told-none}
+use Rattle.terms.specs.Laws.Answer.{pick-yes, by-bind}
 use Rattle.heads.specs.Head.{tlv, octets}
 use Rattle.heads.specs.Laws.Head.{length-tlv}
 use Rattle.layouts.specs.Layout.{Members, Values, All, each, encodes}
 use Rattle.layouts.specs.Whole.{sequence, recordOf, Allowed, recordAt}
 use Rattle.layouts.specs.Laws.Reading.{clears}
 use Rattle.layouts.specs.Laws.Whole.{recordAt-back, recordAt-there}
-use Rattle.runs.specs.Run.{runOf, Ran, whole, stopped, andThen, onward, runFrom, readRun, Reader, taken, ended, faulty, hereOf, hereIn, hereAt, made, top, oneMore, stepAfter, stepAnswer, refusal-after}
+use Rattle.runs.specs.Run.{runOf, Ran, whole, stopped, andThen, onward, runFrom, readRun, Reader, hereIn, hereAt, made, top, oneMore, stepAfter, stepAnswer, refusal-after}
 
 -- a value whose record is accepted
 abbrev Accepted : (r : Members) → Values r → Type 0
@@ -92,7 +93,7 @@ module _ (r : Members) where
 
   -- a run that is refused: the records before the fault are read, and the reader stands at the fault
   abbrev Stops : List ℕ → ℕ → List (Values r) → ℕ → ℕ → Type 0
-  Stops w b vs n p = (rest : List ℕ) × (w ≡ runOf r vs ++ rest) × All (Accepted r) vs × (hereIn r rest (b + length (runOf r vs)) ≡ faulty n p)
+  Stops w b vs n p = (rest : List ℕ) × (w ≡ runOf r vs ++ rest) × All (Accepted r) vs × (hereIn r rest (b + length (runOf r vs)) ≡ fault n p)
 
   stopped-cons : (a : Values r) (x : Ran (Values r)) (vs : List (Values r)) (n p : ℕ) → andThen a x ≡ stopped vs n p → (us : List (Values r)) × (x ≡ stopped us n p) × (a ∷ us ≡ vs)
   unfolding andThen
@@ -101,7 +102,7 @@ module _ (r : Members) where
       let i : m ≡ n = cc in let j : q ≡ p = cc in let k : a ∷ us ≡ vs = cc in (us, rw (i, j) refl, k)
 
   runFrom-stops : (k : ℕ) (w : List ℕ) (b : ℕ) (vs : List (Values r)) (n p : ℕ) → length w ≤ k → runFrom k r w b ≡ stopped vs n p → Stops w b vs n p
-  unfolding runFrom each hereIn onward
+  unfolding runFrom each hereIn onward bind
   runFrom-stops zero w b vs n p h e = let z : _≡_ {A = ℕ} 0 1 = cc in let y : ⊥ = omega arith in absurd y
   runFrom-stops (suc k) [] b vs n p h e = let z : _≡_ {A = ℕ} 0 1 = cc in let y : ⊥ = omega arith in absurd y
   runFrom-stops (suc k) (x ∷ w) b vs n p h e =
@@ -120,7 +121,7 @@ module _ (r : Members) where
             i .0,
             u .0 ∙ ap (λ (y : List ℕ). recordOf r (a .value) ++ y) (i .1) ∙ sym (append-assoc (recordOf r (a .value)) (runOf r (t .0)) (i .0)),
             ((u .1, u .3), i .2),
-            subst (λ (q : ℕ). hereIn r (i .0) q ≡ faulty n p) m (i .3),
+            subst (λ (q : ℕ). hereIn r (i .0) q ≡ fault n p) m (i .3),
           )
       go (fault m q) f g ih =
           let v : [] ≡ vs = cc in
@@ -130,7 +131,7 @@ module _ (r : Members) where
           rw (← v) (x ∷ w, refl, tt, rw (z, f, i, j) refl)
 
   pub run-stops : (w : List ℕ) (vs : List (Values r)) (n p : ℕ) → readRun r w ≡ stopped vs n p
-      → (rest : List ℕ) × (w ≡ runOf r vs ++ rest) × All (Accepted r) vs × (hereAt r w (length (runOf r vs)) ≡ faulty n p)
+      → (rest : List ℕ) × (w ≡ runOf r vs ++ rest) × All (Accepted r) vs × (hereAt r w (length (runOf r vs)) ≡ fault n p)
   unfolding readRun hereAt
   run-stops w vs n p e =
       let s = runFrom-stops (length w) w 0 vs n p (omega arith) e in
@@ -157,50 +158,49 @@ module _ (r : Members) where
 
   -- ---- the run reader goes from record to record
 
-  pub here-there : T (clears r) → (s p : List ℕ) (v : Values r) (w : List ℕ) → Accepted r v → s ≡ p ++ (recordOf r v ++ w) → hereAt r s (length p) ≡ taken (got v w (length p + length (recordOf r v)))
-  unfolding hereAt hereIn
+  pub here-there : T (clears r) → (s p : List ℕ) (v : Values r) (w : List ℕ) → Accepted r v → s ≡ p ++ (recordOf r v ++ w) → hereAt r s (length p) ≡ good (some (got v w (length p + length (recordOf r v))))
+  unfolding hereAt hereIn bind
   here-there c s p v w ok e =
       let d : drop (length p) s ≡ recordOf r v ++ w = ap (drop (length p)) e ∙ drop-at p (recordOf r v ++ w) (length p) refl in
       rw d (some-read (recordOf r v ++ w) (length p) (record-cons v .0) (record-cons v .1 ++ w) (ap (λ (y : List ℕ). y ++ w) (record-cons v .2))
       ∙ rw (recordAt-there largest-record r c (omega arith) v (ok .0) (ok .1) w (length p)))
     where
-      some-read : (y : List ℕ) (b x : ℕ) (z : List ℕ) → y ≡ x ∷ z → hereIn r y b ≡ hereOf (recordAt largest-record r y b)
+      some-read : (y : List ℕ) (b x : ℕ) (z : List ℕ) → y ≡ x ∷ z → hereIn r y b ≡ (bind (recordAt largest-record r y b) λ a. good (some a))
       some-read y b x z e = rw e
 
   -- at any other position it reads as if a record began there
-  pub here-end : (s : List ℕ) (p : ℕ) → length s ≤ p → hereAt r s p ≡ ended
-  unfolding hereAt hereIn
+  pub here-end : (s : List ℕ) (p : ℕ) → length s ≤ p → hereAt r s p ≡ good none
+  unfolding hereAt hereIn bind
   here-end s p h = rw (lib.ListN.drop-of-length-le s {i = p} h)
 
-  pub here-inside : (s : List ℕ) (p : ℕ) → p < length s → hereAt r s p ≡ hereOf (recordAt largest-record r (drop p s) p)
-  unfolding hereAt hereIn
+  pub here-inside : (s : List ℕ) (p : ℕ) → p < length s → hereAt r s p ≡ (bind (recordAt largest-record r (drop p s) p) λ a. good (some a))
+  unfolding hereAt hereIn bind
   here-inside s p h = rw (drop-cons s p 0)
 
   -- what it takes is a record that stands there
-  pub here-back : (s : List ℕ) (p : ℕ) (a : Got (Values r)) → hereAt r s p ≡ taken a → (drop p s ≡ recordOf r (a .value) ++ a .rest) × Accepted r (a .value) × (a .after ≡ p + length (recordOf r (a .value)))
-  unfolding hereAt hereIn
+  pub here-back : (s : List ℕ) (p : ℕ) (a : Got (Values r)) → hereAt r s p ≡ good (some a) → (drop p s ≡ recordOf r (a .value) ++ a .rest) × Accepted r (a .value) × (a .after ≡ p + length (recordOf r (a .value)))
+  unfolding hereAt hereIn bind
   here-back s p a e = go (drop p s) e
     where
-      by-here : (x : Res (Got (Values r))) → hereOf x ≡ taken a → x ≡ good a
-      by-here (good b) f = let g : b ≡ a = cc in rw g
-      by-here (fault n q) f = let z : _≡_ {A = ℕ} 0 1 = cc in let y : ⊥ = omega arith in absurd y
+      by-here : (x : Res (Got (Values r))) → (bind x λ b. good (some b)) ≡ good (some a) → x ≡ good a
+      by-here x f = by-bind x _ _ f λ b e g. let h : b ≡ a = cc in rw (← h) e
 
-      go : (w : List ℕ) → hereIn r w p ≡ taken a → (w ≡ recordOf r (a .value) ++ a .rest) × Accepted r (a .value) × (a .after ≡ p + length (recordOf r (a .value)))
+      go : (w : List ℕ) → hereIn r w p ≡ good (some a) → (w ≡ recordOf r (a .value) ++ a .rest) × Accepted r (a .value) × (a .after ≡ p + length (recordOf r (a .value)))
       go [] f = let z : _≡_ {A = ℕ} 0 1 = cc in let y : ⊥ = omega arith in absurd y
       go (x ∷ w) f = let u = recordAt-back largest-record r (x ∷ w) p a (by-here _ f) in (u .0, (u .1, u .3), u .2)
 
   -- ---- a step of the run reader, by what it sees
 
-  pub step-takes : (s : List ℕ) (x : Reader) (a : Got (Values r)) (n : ℕ) → hereAt r s (x .position) ≡ taken a → a .after ≡ x .position + n
+  pub step-takes : (s : List ℕ) (x : Reader) (a : Got (Values r)) (n : ℕ) → hereAt r s (x .position) ≡ good (some a) → a .after ≡ x .position + n
       → (stepAnswer r s x ≡ told-two done (x .position) n) × (stepAfter r s x ≡ record { position = x .position + n; handed = oneMore (x .handed) })
   unfolding stepAnswer stepAfter
   step-takes s x a n e h = let f : x .position + n - x .position ≡ n = omega arith in (rw (e, h, f) refl, rw (e, h) refl)
 
-  pub step-ends : (s : List ℕ) (x : Reader) → hereAt r s (x .position) ≡ ended → (stepAnswer r s x ≡ told-none run-end) × (stepAfter r s x ≡ x)
+  pub step-ends : (s : List ℕ) (x : Reader) → hereAt r s (x .position) ≡ good none → (stepAnswer r s x ≡ told-none run-end) × (stepAfter r s x ≡ x)
   unfolding stepAnswer stepAfter
   step-ends s x e = (rw e refl, rw e refl)
 
-  pub step-faults : (s : List ℕ) (x : Reader) (n p : ℕ) → hereAt r s (x .position) ≡ faulty n p → (stepAnswer r s x ≡ refusal-after n p (x .handed)) × (stepAfter r s x ≡ x)
+  pub step-faults : (s : List ℕ) (x : Reader) (n p : ℕ) → hereAt r s (x .position) ≡ fault n p → (stepAnswer r s x ≡ refusal-after n p (x .handed)) × (stepAfter r s x ≡ x)
   unfolding stepAnswer stepAfter
   step-faults s x n p e = (rw e refl, rw e refl)
 
@@ -234,7 +234,7 @@ module _ (r : Members) where
   walk-records c s (v ∷ vs) ok k (suc m) b n b′ n′ before rest em es eb et ep en =
       let w : List ℕ = runOf r vs ++ rest in
       let q : s ≡ before ++ (recordOf r v ++ w) = es ∙ ap (λ (y : List ℕ). before ++ y) (append-assoc (recordOf r v) (runOf r vs) rest) in
-      let here : hereAt r s b ≡ taken (got v w (b + length (recordOf r v))) = rw eb (here-there c s before v w (ok .0) q) in
+      let here : hereAt r s b ≡ good (some (got v w (b + length (recordOf r v)))) = rw eb (here-there c s before v w (ok .0) q) in
       let t = step-takes s (at b n) (got v w (b + length (recordOf r v))) (length (recordOf r v)) here refl in
       let o : oneMore n ≡ n + 1 = one-more n (omega arith) in
       let l = length-append (recordOf r v) (runOf r vs) in
