@@ -5,7 +5,6 @@ use places::TABLE_SIZE;
 use structures::Row;
 use terms::LARGEST_RECORD;
 ghost use mathlib.Core.Path.{_≡_};
-ghost use Rattle.layouts.specs.Laws.Places.{blank};
 ghost use Rattle.layouts.specs.Places.{Placed};
 ghost use Rattle.layouts.specs.Whole.{accept, toldOutcome};
 ghost use Rattle.records.specs.Record.{seal, signature};

@@ -181,6 +181,14 @@ fn clock_in(w: &[u8]) -> Parsed
     Parsed::Number(joined(hour, minute, second))
 }
 
+// A date and a clock as one number.
+fn whole(date: u64, clock: u64) -> u64
+    requires { ⌜ (date ≤ 99999999) × (clock ≤ 99999999) ⌝ }
+    ensures { λ r. ⌜ r ≡ date * 1000000 + clock ⌝ }
+{
+    date * 1000000 + clock
+}
+
 // The number of the time that a window begins with.
 fn time_in(w: &[u8]) -> Parsed
     ensures { λ r. ⌜ r ≡ told (timeFrom year-digits (now (w .entry)) 0) ⌝ }
@@ -191,7 +199,7 @@ fn time_in(w: &[u8]) -> Parsed
     let Parsed::Number(clock) = clock_in(w) else {
         return Parsed::Nothing;
     };
-    Parsed::Number(date * 1000000 + clock)
+    Parsed::Number(whole(date, clock))
 }
 
 // Whether the content from `a` to `z` is a time, in the item whose tag stands at `at`.

@@ -29,7 +29,7 @@ byte-requires-8 : tie.Need-byte-requires-8
 byte-requires-8 c κs = search needs
 
 returns : tie.Need-returns
-returns c = eight-bytes (c .before .before .before .before .before .before .before .before .args .neg) (c .before .before .before .before .before .before .before .before .args .m) (c .before .before .before .before .before .before .before .byte .ensures) (c .before .before .before .before .before .before .byte2 .ensures) (c .before .before .before .before .before .byte3 .ensures) (c .before .before .before .before .byte4 .ensures) (c .before .before .before .byte5 .ensures) (c .before .before .byte6 .ensures) (c .before .byte7 .ensures) (c .byte8 .ensures)
+returns c = search (needs, eight-bytes)
 
 pub bytes-spec : {M : Type 1} → statement M
 bytes-spec =

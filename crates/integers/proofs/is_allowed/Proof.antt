@@ -1,5 +1,5 @@
 -- `integers::is_allowed`: each kind of number by its most.
-use Rattle.integers.specs.Laws.Number.{allowed-kind, allowed-size}
+use Rattle.integers.specs.Laws.Number.{allowed-as}
 use borrow.Author.Needs.{needs}
 use Rattle.integers.proofs.is_allowed.Statement.{statement}
 use Rattle.integers.proofs.is_allowed.Tie as tie
@@ -23,10 +23,10 @@ returns : tie.Need-returns
 returns c = search needs
 
 returns-2 : tie.Need-returns-2
-returns-2 c = search (needs, allowed-kind)
+returns-2 c = search (needs, allowed-as)
 
 returns-3 : tie.Need-returns-3
-returns-3 c = search (needs, allowed-size)
+returns-3 c = search (needs, allowed-as)
 
 pub is-allowed-spec : {M : Type 1} → statement M
 is-allowed-spec =

@@ -41,10 +41,10 @@ loop-less : tie.Need-loop-less Inv-loop μ-loop
 loop-less c = search needs
 
 loop-again : tie.Need-loop-again Inv-loop μ-loop
-loop-again c = turns (c .before .before .before .loop .inv) (omega arith) (c .digit2 .ensures .0) (omega arith)
+loop-again c = search (needs, turns)
 
 returns : tie.Need-returns Inv-loop μ-loop
-returns c = (ends (c .before .loop .inv) (omega arith), small (c .before .loop .inv))
+returns c = (search (needs, ends), search (needs, small))
 
 pub magnitude-spec : {M : Type 1} → statement M
 magnitude-spec =

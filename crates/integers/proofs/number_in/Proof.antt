@@ -1,5 +1,5 @@
 -- `integers::number_in`: the content is well formed or has no number.
-use Rattle.integers.specs.Laws.Number.{number-shape, number-long, number-value, some-byte}
+use Rattle.integers.specs.Laws.Number.{number-shape, number-long, number-good, some-byte}
 use borrow.Author.Needs.{needs}
 use Rattle.integers.proofs.number_in.Statement.{statement}
 use Rattle.integers.proofs.number_in.Tie as tie
@@ -17,7 +17,7 @@ value-in-requires : tie.Need-value-in-requires
 value-in-requires c κs = (search (needs, some-byte), search needs)
 
 returns-3 : tie.Need-returns-3
-returns-3 c = search (needs, number-value)
+returns-3 c = search (needs, number-good)
 
 pub number-in-spec : {M : Type 1} → statement M
 number-in-spec =

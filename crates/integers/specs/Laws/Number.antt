@@ -29,7 +29,6 @@ use Rattle.contents.specs.declared.Checked.the-variants.{Fine, Wrong}
 use Rattle.integers.specs.Number.{digitOf, turnedIf, negative, numberOf, numberAt, allowedOf}
 use Rattle.integers.specs.declared.Number.{Number}
 use Rattle.integers.specs.declared.Allowed.{Allowed}
-use Rattle.integers.specs.declared.Allowed.the-variants.{Kind, Millimetres}
 use Rattle.integers.specs.declared.Number.the-variants.{Value, Bad}
 
 -- ---- the loop
@@ -152,7 +151,7 @@ module _ (c : List ℕ) where
   unfolding numberOf wellFormed pick
   number-long t e h l = let f : shortest c ≡ true = sym e ∙ not-false t h in rw (f, lt-leb (length c) 8 l)
 
-  number-good : (t : Bool) (z : ℤ) → t ≡ shortest c → not t ≡ false → length c ≤ 8 → z ≡ value c → Value z ≡ numberOf c
+  pub number-good : (t : Bool) (z : ℤ) → t ≡ shortest c → not t ≡ false → length c ≤ 8 → z ≡ value c → Value z ≡ numberOf c
   unfolding numberOf wellFormed pick
   number-good t z e h l v = let f : shortest c ≡ true = sym e ∙ not-false t h in rw (f, le-leb (length c) 8 l) (ap Value v)
 
@@ -180,9 +179,6 @@ module _ (c : List ℕ) where
       go : (x : List ℕ) → 128 ≤ getD x 0 0 → value x ≡ negsuc (number 256 (turned x))
       go [] h = let z : ⊥ = omega arith in absurd z
       go (a ∷ x) h = rw (le-ltb a 128 h)
-
-  pub number-value : (t : Bool) (v : ℤ) → t ≡ shortest c → not t ≡ false → length c ≤ 8 → v ≡ value c → Value v ≡ numberOf c
-  number-value t v e h l q = number-good t v e h l q
 
   pub value-positive : (m : ℕ) → 0 < length c → getD c 0 0 < 128 → m ≡ number 256 c → m < 2 ^ 63 → toZ w64 m ≡ value c
   value-positive m k b q f = toZ-pos w64 f ∙ ap pos q ∙ sym (value-low b k)
@@ -255,11 +251,8 @@ pub within-high : (z m : ℤ) → SFits w64 z → SFits w64 m → ltZ (bits z) (
 within-high z m f h e = let g : ltZ z (pos 1) ≡ false = rw (toZ-ofZ f) at e in rw (one-le z, g, toZ-ofZ f, toZ-ofZ h)
 
 -- by the kind of number that is asked for
-pub allowed-kind : (k : Allowed) (t : Bool) (z : ℤ) → SFits w64 z → k ≡ Kind → t ≡ fromOne (pos 2) (bits z) → t ≡ allowedOf k z
-allowed-kind k t z h e f = f ∙ rw (e, toZ-ofZ h)
-
-pub allowed-size : (k : Allowed) (t : Bool) (z : ℤ) → SFits w64 z → k ≡ Millimetres → t ≡ fromOne (pos 65535) (bits z) → t ≡ allowedOf k z
-allowed-size k t z h e f = f ∙ rw (e, toZ-ofZ h)
+pub allowed-as : (k j : Allowed) (t : Bool) (z : ℤ) → SFits w64 z → k ≡ j → t ≡ allowedOf j (bits z) → t ≡ allowedOf k z
+allowed-as k j t z h e f = f ∙ rw (e, toZ-ofZ h)
 
 -- ---- back: a number's sign, magnitude and bytes
 

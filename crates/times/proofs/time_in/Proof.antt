@@ -1,5 +1,4 @@
 -- `times::time_in` joins date and clock; `time-in` says that the rules' parts in their order are these two.
-use native.Mathlib.Omega.{arith}
 use borrow.Author.Needs.{needs}
 use Rattle.times.specs.Laws.Parts.{at-most}
 use Rattle.times.specs.Time.{timeIn}
@@ -33,11 +32,8 @@ returns-2 : tie.Need-returns-2
 unfolding timeIn
 returns-2 c = search (needs, as-read, steps) depth 12
 
-mul-t6 : tie.Need-mul-t6
-mul-t6 c = omega (arith, at-most (c .before .before .before .before .before .before .before .date-in .ensures .1) (c .before .before .before .before .before .date .given .1))
-
-add-t7 : tie.Need-add-t7
-add-t7 c = omega (arith, at-most (c .before .before .before .before .before .before .before .date-in .ensures .1) (c .before .before .before .before .before .date .given .1), at-most (c .before .before .before .clock-in .ensures .1) (c .before .clock .given .1))
+whole-requires : tie.Need-whole-requires
+whole-requires c κs = search (needs, at-most)
 
 returns-3 : tie.Need-returns-3
 unfolding timeIn
@@ -55,6 +51,5 @@ time-in-spec =
     enum-known-clock
     enum-told-2
     returns-2
-    mul-t6
-    add-t7
+    whole-requires
     returns-3)
