@@ -5,16 +5,17 @@ use native.Mathlib.Omega.{arith}
 use native.Mathlib.Numerals.{add-one}
 use mathlib.Core.Bool.{Bool, true, false, not, _&&_, _||_}
 use mathlib.Core.List.{List, [], _∷_}
-use lib.ListN.{length, getD, drop, drop-of-length-le}
-use lib.Seq.{slice, drop-cons}
+use lib.ListN.{length, getD, take, drop, drop-of-length-le}
+use lib.Seq.{slice, drop-cons, drop-drop}
 use lib.Dec.{ltb, eqb}
 use borrow.Author.Tests.{lt-ltb, le-leb, lt-leb}
-use Rattle.terms.specs.Answer.{enough, same}
+use Rattle.terms.specs.Answer.{pick, never-empty, enough, same}
 use Rattle.terms.specs.Numbers.{bad-identifier, bad-bits, bad-boolean, no-bytes}
-use Rattle.contents.specs.Content.{fine, wrong, tag, ask, placeOf}
+use Rattle.contents.specs.Content.{Check, fine, ask, placeOf}
 use Rattle.contents.specs.Text.{partsFrom, isIdentifier}
-use Rattle.contents.specs.Rules.{octetsRule, bitsRule, yes-byte, booleanRule, identifierRule}
-use Rattle.contents.specs.Scan.{checked, checkedAt}
+use Rattle.contents.specs.Rules.{octetsRule, yes-byte, booleanRule, identifierRule}
+use Rattle.contents.specs.Leaves.{bitString}
+use Rattle.contents.specs.Scan.{checked, checkedAt, behindAt}
 use Rattle.contents.specs.declared.Checked.{Checked}
 use Rattle.contents.specs.declared.Checked.the-variants.{Wrong}
 
@@ -25,17 +26,21 @@ enough-by true w = refl
 enough-by false [] = refl
 enough-by false (b ∷ w) = rw (lt-ltb 0 (suc (length w)) (omega arith))
 
--- bits: no byte, or a first byte that is to be 00 and another after it
-bits-empty : (w : List ℕ) → length w ≡ 0 → bitsRule w ≡ wrong bad-bits tag
-unfolding bitsRule
-bits-empty [] h = refl
-bits-empty (b ∷ w) h = let f : ⊥ = omega arith in absurd f
+-- bits: a first byte that is to be 00, and another after it
+bits-by : (w : List ℕ) (p a : ℕ) → (length w ≡ 0 → ⊥)
+    → checked (ask (eqb (getD w 0 0) 0x00) bad-bits (ask (ltb 1 (length w)) no-bytes fine)) p a ≡ pick (same (take 1 w) (0x00 ∷ [])) (checked (octetsRule never-empty (drop 1 w)) p a) (Wrong bad-bits p)
+unfolding octetsRule enough same ask pick placeOf
+bits-by w p a h = go w h
+  where
+    first : (t : Bool) (k : Check) → checked (ask t bad-bits k) p a ≡ pick (t && true) (checked k p a) (Wrong bad-bits p)
+    first true k = refl
+    first false k = refl
 
-bits-by : (w : List ℕ) → (length w ≡ 0 → ⊥) → bitsRule w ≡ ask (eqb (getD w 0 0) 0x00) bad-bits (ask (ltb 1 (length w)) no-bytes fine)
-unfolding bitsRule enough
-bits-by [] h = absurd (h refl)
-bits-by (b ∷ []) h = refl
-bits-by (b ∷ d ∷ w) h = rw (lt-ltb 1 (suc (suc (length w))) (omega arith))
+    go : (w : List ℕ) → (length w ≡ 0 → ⊥)
+        → checked (ask (eqb (getD w 0 0) 0x00) bad-bits (ask (ltb 1 (length w)) no-bytes fine)) p a ≡ pick (same (take 1 w) (0x00 ∷ [])) (checked (octetsRule never-empty (drop 1 w)) p a) (Wrong bad-bits p)
+    go [] h = absurd (h refl)
+    go (b ∷ []) h = first (eqb b 0x00) _
+    go (b ∷ d ∷ w) h = rw (lt-ltb 1 (suc (suc (length w))) (omega arith)) (first (eqb b 0x00) _)
 
 -- `y` is what was answered of the window `w`
 module _ (s w : List ℕ) (p a z : ℕ) (win : w ≡ slice a z s) (y : Checked) where
@@ -51,14 +56,15 @@ module _ (s w : List ℕ) (p a z : ℕ) (win : w ≡ slice a z s) (y : Checked) 
   unfolding checkedAt identifierRule
   identifier-rule t g h = rw (← win, ← g) (h a)
 
-  pub bits-rule : (length w ≡ 0 → ⊥) → ((k : ℕ) → y ≡ checked (ask (eqb (getD w 0 0) 0x00) bad-bits (ask (ltb 1 (length w)) no-bytes fine)) p k) → y ≡ checkedAt bitsRule s p a z
-  unfolding checkedAt
-  bits-rule e h = rw (← win, bits-by w e) (h a)
+  pub bits-rule : (length w ≡ 0 → ⊥) → ((k : ℕ) → y ≡ checked (ask (eqb (getD w 0 0) 0x00) bad-bits (ask (ltb 1 (length w)) no-bytes fine)) p k) → y ≡ behindAt (bitString .front) (octetsRule never-empty) s p a z
+  unfolding behindAt checkedAt
+  bits-rule e h = rw (← drop-drop 1 a (take z s), ← win) (h (a + 1) ∙ bits-by w p (a + 1) e)
 
 -- bits that have no byte
-pub bits-none : (s w : List ℕ) (p a z : ℕ) → w ≡ slice a z s → length w ≡ 0 → Wrong bad-bits p ≡ checkedAt bitsRule s p a z
-unfolding checkedAt placeOf
-bits-none s w p a z win e = rw (← win, bits-empty w e)
+pub bits-none : (s w : List ℕ) (p a z : ℕ) → w ≡ slice a z s → length w ≡ 0 → Wrong bad-bits p ≡ behindAt (bitString .front) (octetsRule never-empty) s p a z
+unfolding behindAt pick same
+bits-none s [] p a z win e = rw (← win)
+bits-none s (b ∷ w) p a z win e = let f : ⊥ = omega arith in absurd f
 
 -- ---- an identifier: `g` is whether a part begins at `i`
 

@@ -8,10 +8,12 @@ ghost use mathlib.Core.Path.{_≡_};
 ghost use mathlib.Core.Bool.{true, _&&_};
 ghost use Prim.Native.Nat.{ℕ};
 ghost use lib.Dec.{eqb};
+ghost use Rattle.terms.specs.Answer.{never-empty};
 ghost use Rattle.contents.specs.Text.{partsFrom, isIdentifier};
-ghost use Rattle.contents.specs.Rules.{octetsRule, booleanRule, bitsRule, identifierRule};
+ghost use Rattle.contents.specs.Rules.{octetsRule, booleanRule, identifierRule};
 ghost use Rattle.contents.specs.Content.{fine, ask as asked};
-ghost use Rattle.contents.specs.Scan.{checked, checkedAt};
+ghost use Rattle.contents.specs.Leaves.{bitString};
+ghost use Rattle.contents.specs.Scan.{checked, checkedAt, behindAt};
 
 // What a rule answers by one test: fine, or the refusal at the item's tag.
 pub fn ask(holds: bool, number: u8, at: usize) -> Checked
@@ -51,7 +53,7 @@ pub fn boolean(s: &[u8], at: usize, a: usize, z: usize) -> Checked
 
 // A BIT STRING: 12 if it is empty or its first byte is not 00, then 14 if nothing comes after that byte.
 pub fn bits(s: &[u8], at: usize, a: usize, z: usize) -> Checked
-    ensures { λ r. ⌜ r ≡ checkedAt bitsRule (now (s .entry)) at a z ⌝ }
+    ensures { λ r. ⌜ r ≡ behindAt (bitString .front) (octetsRule never-empty) (now (s .entry)) at a z ⌝ }
 {
     let w = windows::window(s, a, z);
     if w.len() == 0 {

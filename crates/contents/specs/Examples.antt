@@ -5,7 +5,7 @@ use mathlib.Core.Bool.{Bool, true, false}
 use mathlib.Core.List.{List, [], _∷_, _++_}
 use lib.ListN.{replicate}
 use lib.IntN.{ℤ, pos, negsuc}
-use Rattle.terms.specs.Numbers.{done, bad-integer, not-allowed, not-es, bad-character, bad-time, bad-identifier, bad-bits, bad-boolean, no-bytes}
+use Rattle.terms.specs.Numbers.{done, bad-integer, not-allowed, not-es, bad-character, bad-time, bad-identifier, bad-boolean, no-bytes}
 use Rattle.terms.specs.Answer.{pick, bind, need, every, enough, same, Told, refuses, told-none, may-be-empty, never-empty}
 use Rattle.terms.specs.Digits.{digits, numberFrom}
 use Rattle.terms.specs.Laws.Table.{Row, asks, answers, sameNumber, sameNumbers, sameTold, agree, agreed}
@@ -13,11 +13,11 @@ use Rattle.contents.specs.Content.{toldCheck, ask, passes}
 use Rattle.contents.specs.Integer.{sign, shortest, wellFormed, turned, value, eight, shrink, contentOf, any, isKind, isMillimetres}
 use Rattle.contents.specs.Text.{within, starts, follows, textFrom, ia5, printable, utf8, partsFrom, isIdentifier}
 use Rattle.contents.specs.Time.{leap, monthLength, possible, isDigit, partFrom, zulu, notLater, timeFrom, timeCheck, timeRule, momentIn, momentOf, written, isReal, momentAt}
-use Rattle.contents.specs.Rules.{integerRule, stringRule, octetsRule, bitsRule, identifierRule, booleanRule, also, onlyRule}
-use Rattle.contents.specs.Leaves.{headerName, version, knownRule}
+use Rattle.contents.specs.Rules.{integerRule, stringRule, octetsRule, identifierRule, booleanRule, also, onlyRule}
+use Rattle.contents.specs.Leaves.{ruleOf, bitString, headerName, version, knownRule}
 
 evaluate : Unit {0}
-unfolding pick bind need every enough same sameNumber sameNumbers sameTold agree digits numberFrom ask passes sign shortest wellFormed turned value eight shrink contentOf within starts follows textFrom partsFrom isIdentifier leap monthLength possible isDigit partFrom zulu notLater timeFrom timeCheck timeRule momentIn momentOf written isReal integerRule stringRule octetsRule bitsRule identifierRule booleanRule also onlyRule
+unfolding pick bind need every enough same sameNumber sameNumbers sameTold agree digits numberFrom ask passes sign shortest wellFormed turned value eight shrink contentOf within starts follows textFrom partsFrom isIdentifier leap monthLength possible isDigit partFrom zulu notLater timeFrom timeCheck timeRule momentIn momentOf written isReal integerRule stringRule octetsRule identifierRule booleanRule also onlyRule
 evaluate = tt
 
 -- a rule that refuses with a number
@@ -212,15 +212,12 @@ versions =
     ∷ (toldCheck (knownRule version ([])), gets bad-integer)
     ∷ []
 
--- 12 before 14
+-- 14: no byte behind the 00
 abbrev bitStrings : List Row
 bitStrings =
-    (toldCheck (bitsRule (0x00 ∷ 0xCC ∷ [])), told-none done)
-    ∷ (toldCheck (bitsRule (0x00 ∷ 0x00 ∷ [])), told-none done)
-    ∷ (toldCheck (bitsRule ([])), gets bad-bits)
-    ∷ (toldCheck (bitsRule (0x01 ∷ [])), gets bad-bits)
-    ∷ (toldCheck (bitsRule (0x08 ∷ 0xCC ∷ [])), gets bad-bits)
-    ∷ (toldCheck (bitsRule (0x00 ∷ [])), gets no-bytes)
+    (toldCheck (ruleOf (bitString .holds) (0xCC ∷ [])), told-none done)
+    ∷ (toldCheck (ruleOf (bitString .holds) (0x00 ∷ [])), told-none done)
+    ∷ (toldCheck (ruleOf (bitString .holds) []), gets no-bytes)
     ∷ []
 
 -- 13: FF alone

@@ -1,35 +1,53 @@
--- The primitive items of document 01: tag, rule and section. "A string, identifier or time is a section of its content bytes
--- (a bit string without its 00). An integer is a section of 8 bytes." Assumes nothing.
-use mathlib.Core.Path.{_≡_, refl}
+-- The primitive items of document 01: what each holds, and its section in a sheet. Assumes nothing.
 use mathlib.Core.Bool.{Bool}
-use mathlib.Core.Option.{some}
-use mathlib.Core.List.{List, [], _∷_, _++_}
+use mathlib.Core.Option.{Option, some}
+use mathlib.Core.List.{List, [], _∷_}
 use Prim.Native.Nat.{ℕ}
-use lib.ListN.{length, drop}
 use lib.IntN.{ℤ}
 use Rattle.terms.specs.Numbers.{not-allowed, not-es}
 use Rattle.terms.specs.Answer.{never-empty}
-use Rattle.contents.specs.Content.{Check, fine, Leaf}
+use Rattle.contents.specs.Content.{Check}
 use Rattle.contents.specs.Integer.{stretch, unstretch, any}
 use Rattle.contents.specs.Text as Text
 use Rattle.contents.specs.Time.{timeRule}
-use Rattle.contents.specs.Rules.{integerRule, stringRule, octetsRule, bitsRule, identifierRule, booleanRule, onlyRule}
-use Rattle.contents.specs.Laws.Leaves.{shown-back, shown-near, integer-there, bits-there}
-use Rattle.contents.specs.Laws.Integer.{stretch-back, stretch-near}
+use Rattle.contents.specs.Rules.{integerRule, stringRule, octetsRule, identifierRule, booleanRule, onlyRule}
 
--- an item whose section, which is also what is handed out, is its content without the bytes `front`, with which every right content begins
-abbrev shown : ℕ → (r : List ℕ → Check) → (front : List ℕ) → ((c : List ℕ) → r c ≡ fine → some (front ++ drop (length front) c) ≡ some c) → Leaf
-shown t r front e = record { tag = t; rule = r; hidden = length front; pack = drop (length front); unpack = λ x. some (front ++ x); there = e; back = shown-back front; near = shown-near front }
+-- what a value is: bytes that pass a rule, or an integer of the numbers that are allowed
+pub data Holding : Type 0 where
+  bytes : (List ℕ → Check) → Holding
+  number : (ℤ → Bool) → Holding
 
--- one whose content begins with no such bytes
-abbrev pub plain : ℕ → (List ℕ → Check) → Leaf
-plain t r = shown t r [] (λ c h. refl)
+-- a primitive item: its tag, what stands before the value in every content, and the value
+pub record Leaf : Type 0 where
+  pub tag : ℕ
+  pub front : List ℕ
+  pub holds : Holding
+
+abbrev pub ruleOf : Holding → List ℕ → Check
+ruleOf (bytes rule) v = rule v
+ruleOf (number allowed) v = integerRule allowed v
+
+-- "A string, identifier or time is a section of its content bytes (a bit string without its 00). An integer is a section of 8 bytes."
+abbrev pub sectionOf : Holding → List ℕ → List ℕ
+sectionOf (bytes rule) v = v
+sectionOf (number allowed) v = stretch v
+
+-- the value that a section has, if it has one
+abbrev pub valueIn : Holding → List ℕ → Option (List ℕ)
+valueIn (bytes rule) x = some x
+valueIn (number allowed) x = unstretch x
+
+-- ---- by name
+
+abbrev plain : ℕ → (List ℕ → Check) → Leaf
+plain t rule = record { tag = t; front = []; holds = bytes rule }
 
 abbrev pub integer : (ℤ → Bool) → Leaf
-integer p = record { tag = 0x02; rule = integerRule p; hidden = 0; pack = stretch; unpack = unstretch; there = integer-there p; back = stretch-back; near = stretch-near }
+integer allowed = record { tag = 0x02; front = []; holds = number allowed }
 
+-- "BIT STRING: first byte 00, then whole bytes"
 abbrev pub bitString : Leaf
-bitString = shown 0x03 bitsRule (0x00 ∷ []) bits-there
+bitString = record { tag = 0x03; front = 0x00 ∷ []; holds = bytes (octetsRule never-empty) }
 
 abbrev pub octetString : Bool → Leaf
 octetString e = plain 0x04 (octetsRule e)
@@ -60,7 +78,11 @@ pub record Known : Type 0 where
   pub other : ℕ
 
 abbrev pub knownRule : Known → List ℕ → Check
-knownRule k c = onlyRule (k .leaf .rule) (k .content) (k .other) c
+knownRule k = onlyRule (ruleOf (k .leaf .holds)) (k .content) (k .other)
+
+-- it is a primitive item whose rule admits that content alone
+abbrev pub only : Known → Leaf
+only k = plain (k .leaf .tag) (knownRule k)
 
 -- "IA5String "ES"": 14, 9, then 8
 abbrev pub headerName : Known

@@ -1,12 +1,11 @@
--- The rules of contents, with 01's order of refusals in each: "6 before 7, 12 before 14, 14 and 9 before 8". Assumes nothing.
+-- The rules of values, with 01's order of refusals in each: "6 before 7, .. 14 and 9 before 8". Assumes nothing.
 use mathlib.Core.Bool.{Bool}
 use mathlib.Core.List.{List, [], _∷_}
 use Prim.Native.Nat.{ℕ}
-use lib.Dec.{eqb}
 use lib.IntN.{ℤ}
-use Rattle.terms.specs.Numbers.{bad-integer, not-allowed, bad-character, bad-identifier, bad-bits, bad-boolean, no-bytes}
-use Rattle.terms.specs.Answer.{never-empty, enough, same}
-use Rattle.contents.specs.Content.{Check, fine, wrong, tag, ask}
+use Rattle.terms.specs.Numbers.{bad-integer, not-allowed, bad-character, bad-identifier, bad-boolean, no-bytes}
+use Rattle.terms.specs.Answer.{enough, same}
+use Rattle.contents.specs.Content.{Check, fine, wrong, ask}
 use Rattle.contents.specs.Integer.{wellFormed, value}
 use Rattle.contents.specs.Text.{Character, isText, isIdentifier}
 
@@ -20,11 +19,6 @@ stringRule alphabet empty c = ask (enough empty c) no-bytes (ask (isText alphabe
 
 unfoldable pub octetsRule : Bool → List ℕ → Check
 octetsRule empty c = ask (enough empty c) no-bytes fine
-
--- "first byte 00, then whole bytes"
-unfoldable pub bitsRule : List ℕ → Check
-bitsRule [] = wrong bad-bits tag
-bitsRule (a ∷ c) = ask (eqb a 0x00) bad-bits (ask (enough never-empty c) no-bytes fine)
 
 unfoldable pub identifierRule : List ℕ → Check
 identifierRule c = ask (isIdentifier c) bad-identifier fine

@@ -10,7 +10,7 @@ use Rattle.terms.specs.Answer.{pick}
 use Rattle.heads.specs.Scan.{headAt}
 use Rattle.heads.specs.declared.Seen.{Seen}
 use Rattle.heads.specs.declared.Seen.the-variants.{Item as At, Refused as Bad}
-use Rattle.contents.specs.Content.{Leaf}
+use Rattle.contents.specs.Leaves.{Leaf}
 use Rattle.layouts.specs.Scan.{thenJudge, leafAt}
 use Rattle.layouts.specs.Marks.{leafMarks}
 

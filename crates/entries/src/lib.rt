@@ -9,7 +9,7 @@ ghost use Rattle.items.specs.Scan.{tagByte};
 ghost use Rattle.primitives.specs.Primitive.{leafOf};
 ghost use Rattle.entries.specs.Entry.{leafWalk, listHeadAt};
 
-// A primitive item under its name, and its index in a list: where its content lies, or its refusal.
+// A primitive item under its name, and its index in a list: where its value lies, or its refusal.
 pub fn leaf(
     s: &[u8],
     primitive: Primitive,
@@ -25,14 +25,7 @@ pub fn leaf(
     let Seen::Item(a, z) = h else {
         return h;
     };
-    places::note(
-        places,
-        name,
-        index,
-        a + primitives::hidden_of(primitive),
-        z,
-        0,
-    );
+    places::note(places, name, index, a, z, 0);
     Seen::Item(a, z)
 }
 

@@ -6,23 +6,23 @@ use mathlib.Core.List.{List, [], _∷_, _++_}
 use lib.ListN.{length, replicate, set, take, drop}
 use Rattle.terms.specs.declared.Field.the-variants.{Header, ListKind, CertificateList, ListedDigest, SealCustomData, SealCustomItem, SealCustomCritical, Stamp}
 use Rattle.terms.specs.Names.{code}
-use Rattle.terms.specs.Numbers.{done, other-tag, bad-boolean, left-over, too-many-items, too-large, bad-sheet, no-room}
+use Rattle.terms.specs.Numbers.{done, other-tag, bad-boolean, left-over, bad-bits, no-bytes, too-many-items, too-large, bad-sheet, no-room}
 use Rattle.terms.specs.Answer.{good, pick, bind, need, have, every, enough, same, Told, told-one, refusal, answered, never-empty}
-use Rattle.terms.specs.Digits.{digits, numberFrom, leading}
+use Rattle.terms.specs.Digits.{digits, numberFrom, number, leading}
 use Rattle.terms.specs.Laws.Table.{Row, asks, answers, sameNumber, sameNumbers, sameTold, agree, agreed}
 use Rattle.heads.specs.Head.{spell, octets, tlv, unspell, size, opening, cut, head, outermost}
 use Rattle.contents.specs.Content.{ask, placeOf, judge}
 use Rattle.contents.specs.Rules.{octetsRule, booleanRule}
-use Rattle.contents.specs.Leaves.{octetString}
-use Rattle.layouts.specs.Layout.{Members, end, _▸_, leaf, node, list, one, maybe, flag, choose, each, option, either, critical, encode}
-use Rattle.layouts.specs.Reading.{readBy, begins, finish, many, readOption, readFlag, readEither, read}
+use Rattle.contents.specs.Leaves.{octetString, bitString}
+use Rattle.layouts.specs.Layout.{Members, end, _▸_, leaf, node, list, one, maybe, flag, choose, each, option, either, encodeLeaf, critical, encode}
+use Rattle.layouts.specs.Reading.{behind, readLeaf, begins, finish, many, readOption, readFlag, readEither, read}
 use Rattle.layouts.specs.Sheet.{count, section, criticalByte, sheetOption, sheetList, sheet, readCount, readSection, fillLeaf, times, criticalIn, fillFlag, fillOption, fillList, fill}
 use Rattle.layouts.specs.Whole.{sequence, recordOf, recordAt, accept, finishSheet, acceptSheet, fit, fillSheet, writeRecord, stored, toldOutcome}
 use Rattle.layouts.specs.Places.{table-size, slot, under, wanted}
 use Rattle.layouts.specs.declared.Outcome.the-variants.{Length, Refused}
 
 evaluate : Unit {0}
-unfolding pick bind need have every enough same sameNumber sameNumbers sameTold agree digits numberFrom leading spell octets tlv unspell size opening cut head outermost ask placeOf judge octetsRule booleanRule each option either critical encode readBy begins finish many readOption readFlag readEither read count section criticalByte sheetOption sheetList sheet readCount readSection fillLeaf times criticalIn fillFlag fillOption fillList fill recordAt accept finishSheet acceptSheet fit fillSheet writeRecord stored
+unfolding pick bind need have every enough same sameNumber sameNumbers sameTold agree digits numberFrom leading spell octets tlv unspell size opening cut head outermost ask placeOf judge octetsRule booleanRule each option either encodeLeaf critical encode behind readLeaf begins finish many readOption readFlag readEither read count section criticalByte sheetOption sheetList sheet readCount readSection fillLeaf times criticalIn fillFlag fillOption fillList fill recordAt accept finishSheet acceptSheet fit fillSheet writeRecord stored
 evaluate = tt
 
 -- an octet string, by which a second one or a SEQUENCE of one follows, then a flag, then up to two octet strings in a list, optional
@@ -74,6 +74,25 @@ rows =
 small-records : asks rows ≡ answers rows
 unfolding evaluate
 small-records = agreed rows tt
+
+-- ---- a bit string: 12 before 14; its value is what stands behind its 00
+
+abbrev bitsOf : List ℕ → Told
+bitsOf w = answered (λ a. number 256 (a .value)) (read (leaf bitString) w 0)
+
+abbrev bitStrings : List Row
+bitStrings =
+    (bitsOf (0x03 ∷ 0x02 ∷ 0x00 ∷ 0xCC ∷ []), told-one done 0xCC)
+    ∷ (bitsOf (0x03 ∷ 0x03 ∷ 0x00 ∷ 0x00 ∷ 0x01 ∷ []), told-one done 0x01)
+    ∷ (bitsOf (0x03 ∷ 0x00 ∷ []), refusal bad-bits 0)
+    ∷ (bitsOf (0x03 ∷ 0x01 ∷ 0x01 ∷ []), refusal bad-bits 0)
+    ∷ (bitsOf (0x03 ∷ 0x02 ∷ 0x08 ∷ 0xCC ∷ []), refusal bad-bits 0)
+    ∷ (bitsOf (0x03 ∷ 0x01 ∷ 0x00 ∷ []), refusal no-bytes 0)
+    ∷ []
+
+bit-strings : asks bitStrings ≡ answers bitStrings
+unfolding evaluate
+bit-strings = agreed bitStrings tt
 
 -- ---- a sheet and its record, byte by byte
 

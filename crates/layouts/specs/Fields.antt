@@ -13,7 +13,8 @@ use Rattle.terms.specs.Names.{sameName}
 use Rattle.terms.specs.Answer.{pick}
 use Rattle.heads.specs.Head.{tlv, before}
 use Rattle.contents.specs.Rules.{yes-byte}
-use Rattle.layouts.specs.Layout.{Item, leaf, node, list, wrap, Members, end, _▸_, Member, known, one, maybe, flag, choose, Value, Values, Part, each, encode, encodes, encodePart}
+use Rattle.contents.specs.Leaves.{Leaf, boolean}
+use Rattle.layouts.specs.Layout.{Item, leaf, node, list, wrap, Members, end, _▸_, Member, known, one, maybe, flag, choose, Value, Values, Part, each, encodeLeaf, encode, encodes, encodePart}
 
 -- a field: its name, its index in a list, the offset of its bytes in the record, its bytes, and of a list the number of its items
 pub record Entry : Type 0 where
@@ -28,6 +29,10 @@ listEntry f k b x n = record { name = f; index = k; place = b; bytes = x; items 
 
 abbrev pub entry : Field → ℕ → ℕ → List ℕ → Entry
 entry f k b x = listEntry f k b x 0
+
+-- where the value of a primitive item starts that stands at `b`
+abbrev pub startOf : Leaf → List ℕ → ℕ → ℕ
+startOf l v b = b + before (length (l .front ++ v)) + length (l .front)
 
 -- the items of a list, from index `k` on
 unfoldable pub eachFields : {A : Type 0} → (ℕ → A → ℕ → List Entry) → (A → List ℕ) → ℕ → List A → ℕ → List Entry
@@ -44,14 +49,14 @@ eitherFields f g (inr c) b = g c b
 
 -- a BOOLEAN that is there
 unfoldable pub flagFields : Field → ℕ → Bool → ℕ → List Entry
-flagFields f k true b = entry f k (b + before 1) yes-byte ∷ []
+flagFields f k true b = entry f k (startOf boolean yes-byte b) yes-byte ∷ []
 flagFields f k false b = []
 
 -- an item's fields, where it stands at `b` under the name `f` and the index `k`; of an item with parts the whole item is one.
 -- A list stands after its items.
 unfoldable mutual
   pub itemFields : (i : Item) → Field → ℕ → Value i → ℕ → List Entry
-  itemFields (leaf l) f k c b = entry f k (b + before (length c) + l .hidden) (drop (l .hidden) c) ∷ []
+  itemFields (leaf l) f k v b = entry f k (startOf l v b) v ∷ []
   itemFields (node t r) f k v b = entry f k b (tlv t (encodes r v)) ∷ runFields r k v (b + before (length (encodes r v)))
   itemFields (list t e n g i) f k vs b =
       eachFields (λ j v p. itemFields i g j v p) (λ v. encode i v) 0 vs (b + before (length (each (λ v. encode i v) vs)))
@@ -68,8 +73,8 @@ unfoldable mutual
   partFields (maybe f i) k v b = optionFields (λ x p. itemFields i f k x p) v b
   partFields (flag f) k v b = flagFields f k v b
   partFields (choose f l t g i j) k v b =
-      entry f k (b + before (length (v .0)) + l .hidden) (drop (l .hidden) (v .0))
-      ∷ eitherFields (λ x p. itemFields i g k x p) (λ x p. itemFields j g k x p) (v .1) (b + length (tlv (l .tag) (v .0)))
+      entry f k (startOf l (v .0) b) (v .0)
+      ∷ eitherFields (λ x p. itemFields i g k x p) (λ x p. itemFields j g k x p) (v .1) (b + length (encodeLeaf l (v .0)))
 
 -- the fields of a whole record
 unfoldable pub fields : (r : Members) → Values r → List Entry

@@ -10,9 +10,9 @@ use lib.Dec.{T}
 use Rattle.terms.specs.declared.Field.{Field}
 use Rattle.terms.specs.Answer.{enough}
 use Rattle.heads.specs.Head.{tlv}
-use Rattle.contents.specs.Content.{Leaf, fine}
+use Rattle.contents.specs.Content.{fine}
 use Rattle.contents.specs.Rules.{yes-byte}
-use Rattle.contents.specs.Leaves.{boolean, Known}
+use Rattle.contents.specs.Leaves.{Leaf, ruleOf, boolean, Known, only}
 
 infixr 20 _▸_
 -- ---- a layout
@@ -33,7 +33,7 @@ mutual
     one : Field → Item → Member
     maybe : Field → Item → Member  -- optional
     flag : Field → Member  -- a BOOLEAN, FALSE by default
-    choose : Field → Leaf → (List ℕ → Bool) → Field → Item → Item → Member  -- a leaf whose content decides which of two items follows
+    choose : Field → Leaf → (List ℕ → Bool) → Field → Item → Item → Member  -- a leaf whose value decides which of two items follows
 
 -- the tag that an item begins with
 abbrev pub tagOf : Item → ℕ
@@ -79,7 +79,7 @@ InEither t P Q (inr b) = T (not t) × Q b
 
 abbrev mutual
   pub Ok : (i : Item) → Value i → Type 0
-  Ok (leaf l) c = l .rule c ≡ fine
+  Ok (leaf l) v = ruleOf (l .holds) v ≡ fine
   Ok (node t r) v = Oks r v
   Ok (list t e n f i) vs = T (enough e vs) × (length vs ≤ n) × All (λ v. Ok i v) vs
   Ok (wrap t i) v = Ok i v
@@ -93,7 +93,7 @@ abbrev mutual
   OkPart (one f i) v = Ok i v
   OkPart (maybe f i) v = InOption (λ x. Ok i x) v
   OkPart (flag f) v = Unit {0}
-  OkPart (choose f l t g i j) v = (l .rule (v .0) ≡ fine) × InEither (t (v .0)) (λ x. Ok i x) (λ x. Ok j x) (v .1)
+  OkPart (choose f l t g i j) v = (ruleOf (l .holds) (v .0) ≡ fine) × InEither (t (v .0)) (λ x. Ok i x) (λ x. Ok j x) (v .1)
 
 -- ---- writing
 
@@ -109,14 +109,18 @@ unfoldable pub either : {A B : Type 0} → (A → List ℕ) → (B → List ℕ)
 either f g (inl a) = f a
 either f g (inr b) = g b
 
+-- a primitive item
+unfoldable pub encodeLeaf : Leaf → List ℕ → List ℕ
+encodeLeaf l v = tlv (l .tag) (l .front ++ v)
+
 -- "left out when false, else 01 01 FF"
 unfoldable pub critical : Bool → List ℕ
-critical true = tlv (boolean .tag) yes-byte
+critical true = encodeLeaf boolean yes-byte
 critical false = []
 
 unfoldable mutual
   pub encode : (i : Item) → Value i → List ℕ
-  encode (leaf l) c = tlv (l .tag) c
+  encode (leaf l) v = encodeLeaf l v
   encode (node t r) v = tlv t (encodes r v)
   encode (list t e n f i) vs = tlv t (each (λ v. encode i v) vs)
   encode (wrap t i) v = tlv t (encode i v)
@@ -126,8 +130,8 @@ unfoldable mutual
   encodes (m ▸ r) v = encodePart m (v .0) ++ encodes r (v .1)
 
   pub encodePart : (m : Member) → Part m → List ℕ
-  encodePart (known w) v = tlv (w .leaf .tag) (w .content)
+  encodePart (known w) v = encodeLeaf (only w) (w .content)
   encodePart (one f i) v = encode i v
   encodePart (maybe f i) v = option (λ x. encode i x) v
   encodePart (flag f) v = critical v
-  encodePart (choose f l t g i j) v = tlv (l .tag) (v .0) ++ either (λ x. encode i x) (λ x. encode j x) (v .1)
+  encodePart (choose f l t g i j) v = encodeLeaf l (v .0) ++ either (λ x. encode i x) (λ x. encode j x) (v .1)

@@ -14,8 +14,7 @@ use Rattle.heads.specs.declared.Seen.{Seen}
 use Rattle.heads.specs.declared.Seen.the-variants.{Item as At, Refused as Bad}
 use Rattle.heads.specs.declared.Step.{Step}
 use Rattle.heads.specs.declared.Step.the-variants.{Next, Refused}
-use Rattle.contents.specs.Content.{Leaf}
-use Rattle.contents.specs.Leaves.{boolean}
+use Rattle.contents.specs.Leaves.{Leaf, boolean}
 use Rattle.layouts.specs.Layout.{Item, leaf, node, list, wrap, Members, end, _▸_, Member, known, one, maybe, flag, choose, tagOf}
 use Rattle.layouts.specs.Whole.{sequence}
 use Rattle.layouts.specs.Scan.{leafAt, beginsAt, scan, scanPart}
@@ -67,7 +66,7 @@ manyMarks f m zero j p e d = d
 manyMarks f m (suc n) j p e d = pick (ltb p e) (afterStep (f p) (m j p d) λ q. manyMarks f m n (suc j) q e (m j p d)) d
 
 unfoldable pub leafMarks : Leaf → Field → ℕ → List ℕ → ℕ → ℕ → List ℕ → List ℕ
-leafMarks l f k s p e d = afterSeen (leafAt l s p e) d λ a z. noted f k (a + l .hidden) z 0 d
+leafMarks l f k s p e d = afterSeen (leafAt l s p e) d λ a z. noted f k a z 0 d
 
 unfoldable mutual
   pub marks : Item → Field → ℕ → List ℕ → ℕ → ℕ → List ℕ → List ℕ

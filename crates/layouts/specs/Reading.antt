@@ -5,25 +5,26 @@ use Prim.Native.Nat.{ℕ, suc, zero, _+_}
 use mathlib.Core.Bool.{Bool, true, false}
 use mathlib.Core.Option.{Option, none, some}
 use mathlib.Core.List.{List, [], _∷_}
-use lib.ListN.{length}
+use lib.ListN.{length, take, drop}
 use lib.Dec.{eqb}
-use Rattle.terms.specs.Numbers.{left-over, no-item, too-many-items}
-use Rattle.terms.specs.Answer.{Res, good, fault, Got, got, pick, bind, need, enough}
-use Rattle.heads.specs.Head.{Cut, head}
-use Rattle.contents.specs.Content.{Check, Leaf, judge}
-use Rattle.contents.specs.Leaves.{boolean, knownRule}
+use Rattle.terms.specs.Numbers.{left-over, bad-bits, no-item, too-many-items}
+use Rattle.terms.specs.Answer.{Res, good, fault, Got, got, pick, bind, need, enough, same}
+use Rattle.heads.specs.Head.{Cut, cutOff, head}
+use Rattle.contents.specs.Content.{judge}
+use Rattle.contents.specs.Leaves.{Leaf, ruleOf, boolean, only}
 use Rattle.layouts.specs.Layout.{Item, leaf, node, list, wrap, Members, end, _▸_, Member, known, one, maybe, flag, choose, tagOf, Value, Values, Part}
 
 -- where what follows an item starts
 abbrev pub next : Cut → ℕ
 next c = c .start + length (c .content)
 
--- a primitive item: its head, then its own rule
-unfoldable pub readBy : ℕ → (List ℕ → Check) → List ℕ → ℕ → Res Cut
-readBy t rule w b = bind (head t w b) λ c. judge (rule (c .content)) b (c .start) (good c)
+-- what stands behind the bytes that a content must begin with: "bit string empty, or first byte not 00"
+unfoldable pub behind : List ℕ → ℕ → Cut → Res Cut
+behind f b c = need (same (take (length f) (c .content)) f) bad-bits b (good (cutOff (drop (length f) (c .content)) (c .rest) (c .start + length f)))
 
-abbrev pub readLeaf : Leaf → List ℕ → ℕ → Res Cut
-readLeaf l w b = readBy (l .tag) (l .rule) w b
+-- a primitive item, its value as the content: its head, what it must begin with, then its own rule
+unfoldable pub readLeaf : Leaf → List ℕ → ℕ → Res Cut
+readLeaf l w b = bind (head (l .tag) w b) λ c. bind (behind (l .front) b c) λ v. judge (ruleOf (l .holds) (v .content)) b (v .start) (good v)
 
 -- whether a window begins with a tag
 unfoldable pub begins : ℕ → List ℕ → Bool
@@ -67,7 +68,7 @@ unfoldable mutual
   reads (m ▸ r) w b = bind (readPart m w b) λ a. bind (reads r (a .rest) (a .after)) λ v. good (a .value, v)
 
   pub readPart : (m : Member) → List ℕ → ℕ → Res (Got (Part m))
-  readPart (known k) w b = bind (readBy (k .leaf .tag) (knownRule k) w b) λ c. good (got tt (c .rest) (next c))
+  readPart (known k) w b = bind (readLeaf (only k) w b) λ c. good (got tt (c .rest) (next c))
   readPart (one f i) w b = read i w b
   readPart (maybe f i) w b = readOption (tagOf i) (λ x p. read i x p) w b
   readPart (flag f) w b = readFlag w b

@@ -1,6 +1,6 @@
 -- Reading by positions: where what follows an item starts, or the refusal. Assumes nothing.
 -- Nobody has to believe this page: `Laws.Scan` proves that it is `Reading`, and code is proved against its steps.
-use Prim.Native.Nat.{ℕ, suc, zero}
+use Prim.Native.Nat.{ℕ, suc, zero, _+_}
 use mathlib.Core.Bool.{Bool, _&&_, _||_}
 use mathlib.Core.List.{List}
 use lib.ListN.{length, getD}
@@ -13,8 +13,10 @@ use Rattle.heads.specs.declared.Seen.{Seen}
 use Rattle.heads.specs.declared.Seen.the-variants.{Item as At, Refused as Bad}
 use Rattle.heads.specs.declared.Step.{Step}
 use Rattle.heads.specs.declared.Step.the-variants.{Next, Refused}
-use Rattle.contents.specs.Content.{Check, fine, wrong, Leaf, placeOf}
-use Rattle.contents.specs.Leaves.{boolean, knownRule}
+use Rattle.contents.specs.Leaves.{Leaf, ruleOf, boolean, only}
+use Rattle.contents.specs.Scan.{contentAt}
+use Rattle.contents.specs.declared.Checked.{Checked}
+use Rattle.contents.specs.declared.Checked.the-variants.{Fine, Wrong}
 use Rattle.layouts.specs.Layout.{Item, leaf, node, list, wrap, Members, end, _▸_, Member, known, one, maybe, flag, choose, tagOf}
 use Rattle.layouts.specs.Whole.{sequence}
 
@@ -26,19 +28,17 @@ abbrev pub thenStep : Step → (ℕ → Step) → Step
 thenStep (Next a) k = k a
 thenStep (Refused n p) k = Refused n p
 
-abbrev pub judgeAt : Check → ℕ → ℕ → ℕ → Seen
-judgeAt fine p a z = At a z
-judgeAt (wrong n x) p a z = Bad n (placeOf x p a)
+unfoldable pub judgedAt : Checked → ℕ → ℕ → Seen
+judgedAt Fine a z = At a z
+judgedAt (Wrong n p) a z = Bad n p
 
 abbrev pub thenJudge : Seen → (ℕ → ℕ → Seen) → Seen
 thenJudge (At a z) k = k a z
 thenJudge (Bad n p) k = Bad n p
 
-unfoldable pub ruleAt : ℕ → (List ℕ → Check) → List ℕ → ℕ → ℕ → Seen
-ruleAt t rule s p e = thenJudge (headAt t s p e) λ a z. judgeAt (rule (slice a z s)) p a z
-
-abbrev pub leafAt : Leaf → List ℕ → ℕ → ℕ → Seen
-leafAt l s p e = ruleAt (l .tag) (l .rule) s p e
+-- where a primitive item's value lies
+unfoldable pub leafAt : Leaf → List ℕ → ℕ → ℕ → Seen
+leafAt l s p e = thenJudge (headAt (l .tag) s p e) λ a z. judgedAt (contentAt (l .front) (ruleOf (l .holds)) s p a z) (a + length (l .front)) z
 
 unfoldable pub beginsAt : ℕ → List ℕ → ℕ → ℕ → Bool
 beginsAt t s p e = ltb p e && eqb (getD s p 0) t
@@ -62,7 +62,7 @@ unfoldable mutual
   scans (m ▸ r) s p e = thenStep (scanPart m s p e) λ q. scans r s q e
 
   pub scanPart : Member → List ℕ → ℕ → ℕ → Step
-  scanPart (known k) s p e = thenSeen (ruleAt (k .leaf .tag) (knownRule k) s p e) λ a z. Next z
+  scanPart (known k) s p e = thenSeen (leafAt (only k) s p e) λ a z. Next z
   scanPart (one f i) s p e = scan i s p e
   scanPart (maybe f i) s p e = pick (beginsAt (tagOf i) s p e) (scan i s p e) (Next p)
   scanPart (flag f) s p e = pick (beginsAt (boolean .tag) s p e) (thenSeen (leafAt boolean s p e) λ a z. Next z) (Next p)

@@ -9,7 +9,8 @@ use Rattle.terms.specs.Numbers.{no-item, too-many-items, bad-sheet}
 use Rattle.terms.specs.Answer.{Res, good, Got, got, pick, bind, need, have, same}
 use Rattle.terms.specs.Digits.{digits, leading}
 use Rattle.heads.specs.Head.{Cut, cutOff}
-use Rattle.contents.specs.Content.{Leaf, judge}
+use Rattle.contents.specs.Content.{judge}
+use Rattle.contents.specs.Leaves.{Leaf, ruleOf, sectionOf, valueIn}
 use Rattle.layouts.specs.Layout.{Item, leaf, node, list, wrap, Members, end, _▸_, Member, known, one, maybe, flag, choose, Value, Values, Part, each, either}
 use Rattle.layouts.specs.Reading.{next, readEither}
 
@@ -41,7 +42,7 @@ sheetList f xs = count (length xs) ++ each f xs
 
 unfoldable mutual
   pub sheet : (i : Item) → Value i → List ℕ
-  sheet (leaf l) c = section (l .pack c)
+  sheet (leaf l) v = section (sectionOf (l .holds) v)
   sheet (node t r) v = sheets r v
   sheet (list t e n f i) vs = sheetList (λ v. sheet i v) vs
   sheet (wrap t i) v = sheet i v
@@ -55,7 +56,7 @@ unfoldable mutual
   sheetPart (one f i) v = sheet i v
   sheetPart (maybe f i) v = sheetOption (λ x. sheet i x) v
   sheetPart (flag f) v = section (criticalByte v)
-  sheetPart (choose f l t g i j) v = section (l .pack (v .0)) ++ either (λ x. sheet i x) (λ x. sheet j x) (v .1)
+  sheetPart (choose f l t g i j) v = section (sectionOf (l .holds) (v .0)) ++ either (λ x. sheet i x) (λ x. sheet j x) (v .1)
 
 -- ---- reading: 19 before a section's own rule
 
@@ -67,7 +68,7 @@ unfoldable pub readSection : List ℕ → ℕ → Res Cut
 readSection w p = bind (readCount w p) λ n. need (leb (n .0) (length (n .1))) bad-sheet p (good (cutOff (take (n .0) (n .1)) (drop (n .0) (n .1)) (p + count-bytes)))
 
 unfoldable pub fillLeaf : Leaf → List ℕ → ℕ → Res (Got (List ℕ))
-fillLeaf l w p = bind (readSection w p) λ c. bind (have (l .unpack (c .content)) bad-sheet p) λ k. judge (l .rule k) p (c .start) (good (got k (c .rest) (next c)))
+fillLeaf l w p = bind (readSection w p) λ c. bind (have (valueIn (l .holds) (c .content)) bad-sheet p) λ v. judge (ruleOf (l .holds) v) p (c .start) (good (got v (c .rest) (next c)))
 
 unfoldable pub times : {A : Type 0} → (List ℕ → ℕ → Res (Got A)) → ℕ → List ℕ → ℕ → Res (Got (List A))
 times f zero w p = good (got [] w p)

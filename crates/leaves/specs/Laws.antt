@@ -1,49 +1,73 @@
 -- A primitive item by its head and its rule; the small questions. Assumes nothing.
 use mathlib.Core.Path.{_≡_, refl, sym, ap, _∙_}
-use Prim.Native.Nat.{ℕ, _≤_, _<_}
+use Prim.Native.Nat.{ℕ, suc, zero, _+_, _-_, _≤_, _<_}
+use native.Mathlib.Omega.{arith}
+use native.Mathlib.Nat.{add-zero}
 use mathlib.Core.Bool.{Bool, false}
 use mathlib.Core.List.{List, [], _∷_}
-use lib.ListN.{length, getD, List·getD-eq-default}
+use lib.ListN.{length, getD, take, length-append, length-drop, List·getD-eq-default}
 use lib.Seq.{slice}
 use lib.Dec.{eqb}
 use borrow.Author.Tests.{lt-ltb, le-ltb}
 use Rattle.terms.specs.Numbers.{left-over}
-use Rattle.terms.specs.Answer.{same}
-use Rattle.terms.specs.Laws.Answer.{pick-lt, pick-ge}
-use Rattle.heads.specs.Scan.{headAt}
+use Rattle.terms.specs.Answer.{Res, good, fault, same}
+use Rattle.terms.specs.Laws.Answer.{never, pick-lt, pick-ge}
+use Rattle.heads.specs.Head.{Cut, head, tlv, before}
+use Rattle.heads.specs.Laws.Head.{head-back, length-tlv}
+use Rattle.heads.specs.Scan.{seen, headAt}
 use Rattle.heads.specs.declared.Seen.{Seen}
 use Rattle.heads.specs.declared.Seen.the-variants.{Item, Refused as Bad}
 use Rattle.heads.specs.declared.Step.the-variants.{Next, Refused}
-use Rattle.contents.specs.Content.{Check, fine, wrong}
-use Rattle.contents.specs.Leaves.{knownRule}
-use Rattle.contents.specs.Scan.{checked, checkedAt}
+use Rattle.contents.specs.Leaves.{Leaf, ruleOf, Known, knownRule, only}
+use Rattle.contents.specs.Scan.{checkedAt, contentAt}
 use Rattle.contents.specs.declared.Checked.{Checked}
 use Rattle.contents.specs.declared.Checked.the-variants.{Fine, Wrong}
 use Rattle.items.specs.declared.Tag.{Tag}
 use Rattle.items.specs.declared.Tag.the-variants as tag
 use Rattle.items.specs.Scan.{tagByte}
-use Rattle.layouts.specs.Scan.{judgeAt, ruleAt, beginsAt, closeAt}
+use Rattle.layouts.specs.Scan.{judgedAt, leafAt, beginsAt, closeAt}
 use Rattle.primitives.specs.declared.Content.{Content}
 use Rattle.primitives.specs.declared.Content.the-variants as content
 use Rattle.primitives.specs.declared.Primitive.{Primitive}
 use Rattle.primitives.specs.declared.Word.{Word}
 use Rattle.primitives.specs.Primitive.{leafOf, knownOf, says}
-use Rattle.leaves.specs.Leaf.{judgedAt, pastOf}
+use Rattle.leaves.specs.Leaf.{pastOf}
 
 -- ---- a head, then a rule
 
-judge-checked : (k : Check) (p a z : ℕ) → judgedAt (checked k p a) a z ≡ judgeAt k p a z
-judge-checked fine p a z = refl
-judge-checked (wrong n x) p a z = refl
+module _ (l : Leaf) (s : List ℕ) (p e : ℕ) (u : Tag) (x : Seen) (i : tagByte u ≡ l .tag) (h : x ≡ headAt (tagByte u) s p e) where
+  pub leaf-refused : (n q : ℕ) → x ≡ Bad n q → x ≡ leafAt l s p e
+  unfolding leafAt
+  leaf-refused n q k = rw (← i, ← h, k)
 
-module _ (t : ℕ) (rule : List ℕ → Check) (s : List ℕ) (p e : ℕ) (u : Tag) (x : Seen) (i : tagByte u ≡ t) (h : x ≡ headAt (tagByte u) s p e) where
-  pub rule-refused : (n q : ℕ) → x ≡ Bad n q → x ≡ ruleAt t rule s p e
-  unfolding ruleAt
-  rule-refused n q k = rw (← i, ← h, k)
+  pub leaf-judged : (a n z : ℕ) (c : Checked) (y : Seen) → x ≡ Item a z → c ≡ contentAt (l .front) (ruleOf (l .holds)) s p a z → n ≡ length (l .front) → y ≡ judgedAt c (a + n) z → y ≡ leafAt l s p e
+  unfolding leafAt
+  leaf-judged a n z c y k g q j = rw (← i, ← h, k, ← g, ← q) j
 
-  pub rule-judged : (a z : ℕ) (c : Checked) (y : Seen) → x ≡ Item a z → c ≡ checkedAt rule s p a z → y ≡ judgedAt c a z → y ≡ ruleAt t rule s p e
-  unfolding ruleAt checkedAt
-  rule-judged a z c y k g j = rw (← i, ← h, k) (j ∙ ap (λ (c : Checked). judgedAt c a z) g ∙ judge-checked (rule (slice a z s)) p a z)
+pub known-judged : (w : Known) (s : List ℕ) (p e a z : ℕ) (u : Tag) (x y : Seen) (c : Checked) → tagByte u ≡ w .leaf .tag → x ≡ headAt (tagByte u) s p e → x ≡ Item a z → c ≡ checkedAt (knownRule w) s p a z → y ≡ judgedAt c a z → y ≡ leafAt (only w) s p e
+known-judged w s p e a z u x y c i h k g j = leaf-judged (only w) s p e u x i h a 0 z c y k g refl (rw (add-zero a) j)
+
+take-short : (n : ℕ) (l : List ℕ) → length (take n l) ≤ length l
+take-short zero l = omega arith
+take-short (suc n) [] = omega arith
+take-short (suc n) (x ∷ l) = let h = take-short n l in omega arith
+
+-- a head ends in the slice
+pub head-inside : (t : ℕ) (s : List ℕ) (p e a z : ℕ) (x : Seen) → x ≡ headAt t s p e → x ≡ Item a z → a ≤ length s
+unfolding headAt
+head-inside t s p e a z x i j = go (head t (slice p e s) p) refl (sym i ∙ j)
+  where
+    go : (x : Res Cut) → head t (slice p e s) p ≡ x → seen x ≡ Item a z → a ≤ length s
+    go (good c) o g =
+        let b = head-back t (slice p e s) p c o in
+        let n : length (slice p e s) ≡ length (take e s) - p = length-drop p (take e s) in
+        let m = take-short e s in
+        let k : length (slice p e s) ≡ before (length (c .content)) + length (c .content) + length (c .rest) =
+        ap length (b .0) ∙ length-append (tlv t (c .content)) (c .rest) ∙ ap (λ (x : ℕ). x + length (c .rest)) (length-tlv t (c .content)) in
+        let q : c .start ≡ a = cc in
+        let r = b .1 in
+        omega arith
+    go (fault n q) o g = never (cc)
 
 -- ---- a tag
 
@@ -86,7 +110,7 @@ close-end p e h = pick-ge p e _ _ h
 -- ---- by the case of an enum
 
 module _ (s : List ℕ) (p a z : ℕ) (y : Checked) where
-  pub primitive-rule : (f g : Primitive) → f ≡ g → y ≡ checkedAt (leafOf g .rule) s p a z → y ≡ checkedAt (leafOf f .rule) s p a z
+  pub primitive-rule : (f g : Primitive) → f ≡ g → y ≡ contentAt (leafOf g .front) (ruleOf (leafOf g .holds)) s p a z → y ≡ contentAt (leafOf f .front) (ruleOf (leafOf f .holds)) s p a z
   primitive-rule f g i h = rw i h
 
   pub word-rule : (w v : Word) → w ≡ v → y ≡ checkedAt (knownRule (knownOf v)) s p a z → y ≡ checkedAt (knownRule (knownOf w)) s p a z
@@ -97,9 +121,11 @@ content-says s content.Kind1 a z w t i h = rw (← i) h
 
 module _ (c : Checked) (a z : ℕ) where
   pub judged-fine : c ≡ Fine → Item a z ≡ judgedAt c a z
+  unfolding judgedAt
   judged-fine i = rw i
 
   pub judged-wrong : (n p : ℕ) → c ≡ Wrong n p → Bad n p ≡ judgedAt c a z
+  unfolding judgedAt
   judged-wrong n p i = rw i
 
 module _ (x : Seen) where

@@ -12,16 +12,16 @@ use terms::MAY_BE_EMPTY;
 use terms::NEVER_EMPTY;
 ghost use mathlib.Core.Path.{_≡_};
 ghost use lib.Seq.{slice};
-ghost use Rattle.contents.specs.Leaves.{knownRule};
-ghost use Rattle.contents.specs.Scan.{checkedAt};
+ghost use Rattle.contents.specs.Leaves.{ruleOf, knownRule, only};
+ghost use Rattle.contents.specs.Scan.{checkedAt, contentAt};
 ghost use Rattle.items.specs.Scan.{tagByte};
-ghost use Rattle.layouts.specs.Scan.{ruleAt, leafAt, beginsAt, closeAt};
+ghost use Rattle.layouts.specs.Scan.{judgedAt, leafAt, beginsAt, closeAt};
 ghost use Rattle.primitives.specs.Primitive.{leafOf, knownOf, says};
-ghost use Rattle.leaves.specs.Leaf.{judgedAt, pastOf};
+ghost use Rattle.leaves.specs.Leaf.{pastOf};
 
 // A content by the rule of its primitive item.
 fn rule(s: &[u8], p: Primitive, at: usize, a: usize, z: usize) -> Checked
-    ensures { λ r. ⌜ r ≡ checkedAt (leafOf p .rule) (now (s .entry)) at a z ⌝ }
+    ensures { λ r. ⌜ r ≡ contentAt (leafOf p .front) (ruleOf (leafOf p .holds)) (now (s .entry)) at a z ⌝ }
 {
     match p {
         Primitive::Octets => bytes::octets(s, at, a, z, NEVER_EMPTY),
@@ -70,7 +70,7 @@ fn judged(c: Checked, a: usize, z: usize) -> Seen
     }
 }
 
-// A primitive item: where its content lies, or the refusal of its head or its content.
+// A primitive item: where its value lies, or the refusal of its head or its content.
 pub fn leaf(s: &[u8], p: Primitive, at: usize, end: usize) -> Seen
     ensures { λ r. ⌜ r ≡ leafAt (leafOf p) (now (s .entry)) at end ⌝ }
 {
@@ -78,12 +78,12 @@ pub fn leaf(s: &[u8], p: Primitive, at: usize, end: usize) -> Seen
     let Seen::Item(a, z) = h else {
         return h;
     };
-    judged(rule(s, p, at, a, z), a, z)
+    judged(rule(s, p, at, a, z), a + primitives::hidden_of(p), z)
 }
 
 // A member whose content is known.
 pub fn known(s: &[u8], w: Word, at: usize, end: usize) -> Seen
-    ensures { λ r. ⌜ r ≡ ruleAt (knownOf w .leaf .tag) (knownRule (knownOf w)) (now (s .entry)) at end ⌝ }
+    ensures { λ r. ⌜ r ≡ leafAt (only (knownOf w)) (now (s .entry)) at end ⌝ }
 {
     let h = items::head(s, word_tag(w), at, end);
     let Seen::Item(a, z) = h else {

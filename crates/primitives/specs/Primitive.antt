@@ -3,9 +3,9 @@ use Prim.Native.Nat.{ℕ}
 use mathlib.Core.Bool.{Bool}
 use mathlib.Core.List.{List}
 use Rattle.terms.specs.Answer.{may-be-empty, never-empty}
-use Rattle.contents.specs.Content.{Leaf}
 use Rattle.contents.specs.Integer.{any, isKind, saysKind1, isMillimetres}
 use Rattle.contents.specs.Leaves as leaves
+use Rattle.contents.specs.Leaves.{Leaf}
 use Rattle.primitives.specs.declared.Primitive.{Primitive}
 use Rattle.primitives.specs.declared.Primitive.the-variants.{Octets, AnyOctets, Bits, Ia5, AnyIa5, AnyPrintable, AnyUtf8, Identifier, Time, Integer, ListKind, Millimetres, Critical}
 use Rattle.primitives.specs.declared.Word.{Word}

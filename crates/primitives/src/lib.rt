@@ -1,7 +1,8 @@
-// The primitive items of the rules by name: what each holds, its tag, and what of it is never handed out.
+// The primitive items of the rules by name: what each holds, its tag, and what stands before its value.
 use items::Tag;
 ghost use mathlib.Core.Path.{_≡_};
 ghost use Prim.Native.Nat.{_≤_};
+ghost use lib.ListN.{length};
 ghost use Rattle.items.specs.Scan.{tagByte};
 ghost use Rattle.primitives.specs.Primitive.{leafOf};
 
@@ -54,9 +55,9 @@ pub fn tag_of(p: Primitive) -> Tag
     }
 }
 
-// How many bytes of a primitive item are never handed out: the first of a bit string.
+// How many bytes of a primitive item's content stand before its value: the first of a bit string.
 pub fn hidden_of(p: Primitive) -> usize
-    ensures { λ r. ⌜ (r ≡ leafOf p .hidden) × (r ≤ 1) ⌝ }
+    ensures { λ r. ⌜ (r ≡ length (leafOf p .front)) × (r ≤ 1) ⌝ }
 {
     match p {
         Primitive::Octets => 0,

@@ -8,9 +8,9 @@ use Rattle.terms.specs.Numbers.{done}
 use Rattle.terms.specs.Answer.{Res, good, fault, Got, Told, gives, refuses, told-none, told-one, refusal, answered, may-be-empty}
 use Rattle.terms.specs.Laws.Table.{Row, asks, answers, agreed}
 use Rattle.heads.specs.Head.{size}
-use Rattle.contents.specs.Content.{Leaf, toldCheck}
+use Rattle.contents.specs.Content.{toldCheck}
 use Rattle.contents.specs.Integer.{value, any}
-use Rattle.contents.specs.Leaves.{integer, identifier, utf8String, generalizedTime}
+use Rattle.contents.specs.Leaves.{Leaf, ruleOf, integer, identifier, utf8String, generalizedTime}
 use Rattle.layouts.specs.Layout.{leaf}
 use Rattle.layouts.specs.Reading.{read}
 use Rattle.verdicts.specs.declared.Revocation.the-variants.{Never, At}
@@ -31,7 +31,7 @@ aLength w = answered (λ z. z .0) (size 0 w)
 
 -- a content, by its rule
 abbrev aContent : Leaf → List ℕ → Told
-aContent l x = toldCheck (l .rule x)
+aContent l x = toldCheck (ruleOf (l .holds) x)
 
 abbrev taken : Told
 taken = told-none done

@@ -3,9 +3,8 @@ use Rattle.terms.specs.declared.Field.{Field}
 use Rattle.terms.specs.declared.Field.the-variants.{SealInformation, Header, Vendor, SealId, Property, SealType, SealName, ListKind, CertificateList, ListedCertificate, ListedEntry, ListedType, ListedDigest, Created, Start, End, Picture, PictureType, PictureData, Width, Height, SealCustomData, SealCustomItem, SealCustomId, SealCustomCritical, SealCustomValue, MakerCertificate, SealAlgorithm, SealSignedValue, SignedPart, Seal, SigningTime, OriginalDigest, PropertyText, SignedCustomData, SignedCustomItem, SignedCustomId, SignedCustomCritical, SignedCustomValue, SignerCertificate, SignatureAlgorithm, SignatureValue, Stamp}
 use Rattle.terms.specs.Numbers.{most-items}
 use Rattle.terms.specs.Answer.{may-be-empty, never-empty}
-use Rattle.contents.specs.Content.{Leaf}
 use Rattle.contents.specs.Integer.{any, isKind, saysKind1, isMillimetres}
-use Rattle.contents.specs.Leaves.{integer, bitString, octetString, identifier, utf8String, printableString, ia5String, generalizedTime, headerName, version}
+use Rattle.contents.specs.Leaves.{Leaf, integer, bitString, octetString, identifier, utf8String, printableString, ia5String, generalizedTime, headerName, version}
 use Rattle.layouts.specs.Layout.{Item, leaf, node, list, wrap, Members, end, _▸_, Member, known, one, maybe, flag, choose}
 use Rattle.layouts.specs.Whole.{sequence}
 

@@ -21,10 +21,9 @@ use Rattle.heads.specs.declared.Step.the-variants.{Next, Refused}
 use Rattle.items.specs.declared.Tag.{Tag}
 use Rattle.items.specs.declared.Tag.the-variants as tag
 use Rattle.items.specs.Scan.{tagByte}
-use Rattle.contents.specs.Content.{Leaf}
-use Rattle.contents.specs.Leaves.{knownRule}
+use Rattle.contents.specs.Leaves.{Leaf, only}
 use Rattle.layouts.specs.Layout.{Item, leaf, node, list, wrap, Members, end, _▸_, Member as Part, known, one, maybe, flag, choose, tagOf}
-use Rattle.layouts.specs.Scan.{thenSeen, thenStep, thenJudge, ruleAt, beginsAt, closeAt, scanMany, scan, recordScan}
+use Rattle.layouts.specs.Scan.{thenSeen, thenStep, thenJudge, leafAt, beginsAt, closeAt, scanMany, scan, recordScan}
 use Rattle.layouts.specs.Whole.{sequence}
 use Rattle.leaves.specs.Leaf.{pastOf}
 use Rattle.primitives.specs.declared.Content.{Content}
@@ -224,7 +223,7 @@ module _ (m : Member) (n : ℕ) (s : List ℕ) (p e : ℕ) (d : List ℕ) where
   unfolding memberWalk
   member-blank i = rw i refl
 
-  pub member-known : (w : Word) (h : Seen) (y : Step) → m ≡ member.Known w → h ≡ ruleAt (knownOf w .leaf .tag) (knownRule (knownOf w)) s p e → y ≡ pastOf h → ReadsPart y d
+  pub member-known : (w : Word) (h : Seen) (y : Step) → m ≡ member.Known w → h ≡ leafAt (only (knownOf w)) s p e → y ≡ pastOf h → ReadsPart y d
   unfolding memberWalk scan
   member-known w h y i j g = rw i (both (g ∙ passed h ∙ ap (λ (x : Seen). thenSeen x λ a z. Next z) j) refl)
 

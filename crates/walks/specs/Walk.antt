@@ -5,7 +5,7 @@ use mathlib.Core.List.{List}
 use Rattle.terms.specs.declared.Field.{Field}
 use Rattle.heads.specs.declared.Step.{Step}
 use Rattle.heads.specs.declared.Step.the-variants.{Next}
-use Rattle.contents.specs.Content.{Leaf}
+use Rattle.contents.specs.Leaves.{Leaf}
 use Rattle.layouts.specs.Layout.{Item, leaf, Members, Member as Part, known, maybe, flag}
 use Rattle.layouts.specs.Scan.{scan, scans, scanPart, recordScan}
 use Rattle.layouts.specs.Marks.{tally, manyMarks, marks, marksAll, marksPart, recordMarks}

@@ -1,20 +1,19 @@
--- A content and its section: each is made of the other. Assumes nothing.
+-- A value and its section: each is made of the other. Assumes nothing.
 use mathlib.Core.Path.{_≡_, refl}
 use Prim.Native.Nat.{ℕ, _+_, _≤_}
 use native.Mathlib.Omega.{arith}
 use mathlib.Core.Bool.{Bool, true, false}
 use mathlib.Core.Option.{some}
-use mathlib.Core.List.{List, [], _∷_, _++_}
-use lib.ListN.{length, drop, length-drop}
-use lib.Seq.{drop-append-seam}
-use lib.Dec.{T, leb, eqb→eq}
-use lib.IntN.{ℤ}
+use mathlib.Core.List.{List}
+use lib.ListN.{length}
+use lib.Dec.{T, leb}
 use Rattle.terms.specs.Answer.{Res, good}
 use Rattle.terms.specs.Laws.Answer.{clash, and-l, and-r}
 use Rattle.contents.specs.Content.{Check, fine, wrong, ask, passes, judge}
-use Rattle.contents.specs.Integer.{shortest, wellFormed, widest, stretch, unstretch}
-use Rattle.contents.specs.Rules.{integerRule, bitsRule}
-use Rattle.contents.specs.Laws.Integer.{stretch-there}
+use Rattle.contents.specs.Integer.{shortest, wellFormed, widest}
+use Rattle.contents.specs.Rules.{integerRule}
+use Rattle.contents.specs.Leaves.{Holding, bytes, number, ruleOf, sectionOf, valueIn}
+use Rattle.contents.specs.Laws.Integer.{stretch-there, stretch-back, stretch-near}
 
 -- ---- what a rule went through
 
@@ -33,23 +32,28 @@ unfolding passes
 passed fine h = refl
 passed (wrong n x) h = absurd h
 
--- ---- a section that is the content without its front
+-- ---- a value and its section
 
-pub shown-back : (front x c : List ℕ) → some (front ++ x) ≡ some c → drop (length front) c ≡ x
-shown-back front x c h = let q : front ++ x ≡ c = cc in rw (← q) (drop-append-seam front x)
-
-pub shown-near : (front c : List ℕ) → length (drop (length front) c) ≤ 8 + length c
-shown-near front c = omega (arith, length-drop (length front) c)
-
--- ---- an integer's
-
-pub integer-there : (p : ℤ → Bool) (c : List ℕ) → integerRule p c ≡ fine → unstretch (stretch c) ≡ some c
+pub value-there : (h : Holding) (v : List ℕ) → ruleOf h v ≡ fine → valueIn h (sectionOf h v) ≡ some v
 unfolding integerRule wellFormed
-integer-there p c h = by-ask _ _ _ h λ t e. stretch-there c (and-l (shortest c) (leb (length c) widest) t) (and-r (shortest c) (leb (length c) widest) t)
+value-there (bytes rule) v ok = refl
+value-there (number allowed) v ok = by-ask _ _ _ ok λ t e. stretch-there v (and-l (shortest v) (leb (length v) widest) t) (and-r (shortest v) (leb (length v) widest) t)
 
--- ---- a bit string's
+pub value-back : (h : Holding) (x v : List ℕ) → valueIn h x ≡ some v → sectionOf h v ≡ x
+value-back (bytes rule) x v e = cc
+value-back (number allowed) x v e = stretch-back x v e
 
-pub bits-there : (c : List ℕ) → bitsRule c ≡ fine → some (0x00 ∷ drop 1 c) ≡ some c
-unfolding bitsRule
-bits-there [] h = let z : _≡_ {A = ℕ} 0 1 = cc in let y : ⊥ = omega arith in absurd y
-bits-there (a ∷ c) h = by-ask _ _ _ h λ e g. let q : a ≡ 0 = eqb→eq a 0 e in rw q
+-- a section is not much longer than its value
+pub section-near : (h : Holding) (v : List ℕ) → length (sectionOf h v) ≤ 8 + length v
+section-near (bytes rule) v = omega arith
+section-near (number allowed) v = stretch-near v
+
+-- what a primitive item holds is bytes, and no number
+abbrev pub IsBytes : Holding → Type 0
+IsBytes (bytes rule) = Unit {0}
+IsBytes (number allowed) = ⊥
+
+-- then its section is its value
+pub section-is-value : (h : Holding) → IsBytes h → (v : List ℕ) → sectionOf h v ≡ v
+section-is-value (bytes rule) i v = refl
+section-is-value (number allowed) i v = absurd i

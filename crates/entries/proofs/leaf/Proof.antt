@@ -1,6 +1,6 @@
--- `entries::leaf`: what was taken is noted past the bytes that are never handed out.
+-- `entries::leaf`: the value that was taken is noted.
 use borrow.Author.Needs.{needs}
-use Rattle.entries.specs.Laws.{leaf-refused, leaf-taken, rule-inside}
+use Rattle.entries.specs.Laws.{leaf-refused, leaf-taken}
 use Rattle.entries.proofs.leaf.Statement.{statement}
 use Rattle.entries.proofs.leaf.Tie as tie
 
@@ -15,12 +15,6 @@ enum-told c = search needs
 
 returns : tie.Need-returns
 returns c = search (needs, leaf-refused)
-
-hidden-of-requires : tie.Need-hidden-of-requires
-hidden-of-requires c κs = search needs
-
-add-note : tie.Need-add-note
-add-note c = let m = rule-inside _ _ _ _ _ _ _ _ (c .before .before .before .before .before .leaf .ensures) (c .before .before .before .h .given .1) in search needs
 
 note-requires : tie.Need-note-requires
 note-requires c κs = search needs
@@ -39,8 +33,6 @@ leaf-spec =
     enum-known-h
     enum-told
     returns
-    hidden-of-requires
-    add-note
     note-requires
     same-length
     returns-2)

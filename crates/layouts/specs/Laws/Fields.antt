@@ -1,21 +1,24 @@
 -- Each field's bytes stand at its place in the record: for every layout. Assumes nothing.
 use mathlib.Core.Path.{_≡_, refl, sym, ap, _∙_, subst}
 use mathlib.Core.Logic.{inl, inr}
-use Prim.Native.Nat.{ℕ, suc, _+_, _<_}
+use Prim.Native.Nat.{ℕ, suc, _+_}
 use native.Mathlib.Omega.{arith}
 use mathlib.Core.Bool.{Bool, true, false, not}
 use mathlib.Core.Option.{Option, none, some}
 use mathlib.Core.List.{List, [], _∷_, _++_, append-assoc, append-nil}
-use lib.ListN.{length, take, drop, length-append, drop-of-length-le}
-use lib.Seq.{take-at, drop-at, drop-drop, drop-append-le}
-use lib.Dec.{T, leb, leb→le, nleb→lt}
+use lib.ListN.{length, take, drop, length-append}
+use lib.Seq.{take-at, drop-at}
+use lib.Dec.{T}
 use Rattle.terms.specs.declared.Field.{Field}
 use Rattle.terms.specs.Answer.{every}
 use Rattle.terms.specs.Laws.Answer.{test, both, pick-yes, pick-no}
 use Rattle.heads.specs.Head.{tlv, octets, before}
-use Rattle.contents.specs.Leaves.{boolean}
-use Rattle.layouts.specs.Layout.{Item, leaf, node, list, wrap, Members, end, _▸_, Member, known, one, maybe, flag, choose, Values, All, each, option, either, critical, encode, encodes, encodePart}
-use Rattle.layouts.specs.Fields.{Entry, eachFields, optionFields, eitherFields, flagFields, itemFields, runFields, partFields, fields, Stands, first}
+use Rattle.contents.specs.Rules.{yes-byte}
+use Rattle.contents.specs.Leaves.{Leaf, boolean}
+use Rattle.contents.specs.Laws.Leaves.{IsBytes, section-is-value}
+use Rattle.layouts.specs.Layout.{Item, leaf, node, list, wrap, Members, end, _▸_, Member, known, one, maybe, flag, choose, Values, All, each, option, either, encodeLeaf, critical, encode, encodes, encodePart}
+use Rattle.layouts.specs.Fields.{Entry, entry, startOf, eachFields, optionFields, eitherFields, flagFields, itemFields, runFields, partFields, fields, Stands, first}
+use Rattle.layouts.specs.Sheet.{section, sheet}
 use Rattle.layouts.specs.Whole.{sequence, recordOf}
 
 -- bytes that stand after others
@@ -44,15 +47,15 @@ past s p x y z e =
     let q : s ≡ p ++ (x ++ (y ++ z)) = e ∙ ap (λ (w : List ℕ). p ++ w) (append-assoc x y z) in
     (q, q ∙ sym (append-assoc p x (y ++ z)), length-append p x)
 
--- a content past what is never handed out
-leaf-stands : (s p z : List ℕ) (t h : ℕ) (c : List ℕ) → s ≡ p ++ (tlv t c ++ z) → take (length (drop h c)) (drop (length p + before (length c) + h) s) ≡ drop h c
-leaf-stands s p z t h c e =
-    let n = inside s p z t c e in
-    let d : drop (length p + before (length c)) s ≡ c ++ z = ap (drop (length p + before (length c))) (n .0) ∙ drop-at (p ++ (t ∷ octets (length c))) (c ++ z) _ (n .1) in
-    let d′ : drop (length p + before (length c) + h) s ≡ drop h (c ++ z) = sym (drop-drop h (length p + before (length c)) s) ∙ ap (drop h) d in
-    rw d′ (test (leb h (length c))
-    (λ k. rw (drop-append-le h c z (leb→le h (length c) k)) (take-at (drop h c) z (length (drop h c)) refl))
-    (λ k. let g : length c < h = nleb→lt h (length c) k in rw (drop-of-length-le c {i = h} (omega arith)) refl))
+-- a primitive item's value
+leaf-stands : (s p z : List ℕ) (l : Leaf) (v : List ℕ) → s ≡ p ++ (encodeLeaf l v ++ z) → take (length v) (drop (startOf l v (length p)) s) ≡ v
+unfolding encodeLeaf
+leaf-stands s p z l v e =
+    let f = l .front in
+    let n = inside s p z (l .tag) (f ++ v) e in
+    let q : List ℕ = p ++ (l .tag ∷ octets (length (f ++ v))) in
+    let m = past s q f v z (n .0) in
+    stands-after s (q ++ f) v z (startOf l v (length p)) (m .1) (m .2 ∙ ap (λ (k : ℕ). k + length f) (n .1))
 
 module _ {A : Type 0} (s : List ℕ) (e : A → List ℕ) where
   each-placed : (f : ℕ → A → ℕ → List Entry) → ((j : ℕ) → Placed s e (λ a b. f j a b)) → (k : ℕ) → Placed s (each e) (λ xs b. eachFields f e k xs b)
@@ -77,8 +80,7 @@ either-placed s e d f g h k (inr b) p z q = k b p z q
 flag-placed : (s : List ℕ) (f : Field) (k : ℕ) → Placed s critical (λ v b. flagFields f k v b)
 unfolding critical flagFields
 flag-placed s f k true p z q =
-    let m : length p + before 1 ≡ length p + before 1 + 0 = omega arith in
-    (rw m (leaf-stands s p z (boolean .tag) 0 (0xFF ∷ []) q), tt)
+    (leaf-stands s p z boolean yes-byte q, tt)
 flag-placed s f k false p z q = tt
 
 module _ (s : List ℕ) where
@@ -86,7 +88,7 @@ module _ (s : List ℕ) where
     unfolding encode itemFields
 
     item-placed : (i : Item) (f : Field) (k : ℕ) → Placed s (λ v. encode i v) (λ v b. itemFields i f k v b)
-    item-placed (leaf l) f k v p z q = (leaf-stands s p z (l .tag) (l .hidden) v q, tt)
+    item-placed (leaf l) f k v p z q = (leaf-stands s p z l v q, tt)
     item-placed (node t r) f k v p z q =
         let n = inside s p z t (encodes r v) q in
         (stands-after s p (tlv t (encodes r v)) z (length p) q refl, rw (n .1) at (run-placed r k v (p ++ (t ∷ octets (length (encodes r v)))) z (n .0)))
@@ -112,11 +114,11 @@ module _ (s : List ℕ) where
     part-placed (maybe f i) k v p z q = option-placed s (λ x. encode i x) (λ x b. itemFields i f k x b) (λ x p z q. item-placed i f k x p z q) v p z q
     part-placed (flag f) k v p z q = flag-placed s f k v p z q
     part-placed (choose f l t g i j) k v p z q =
-        let x : List ℕ = tlv (l .tag) (v .0) in
+        let x : List ℕ = encodeLeaf l (v .0) in
         let y : List ℕ = either (λ x. encode i x) (λ x. encode j x) (v .1) in
         let n = past s p x y z q in
         let u = either-placed s (λ x. encode i x) (λ x. encode j x) (λ x b. itemFields i g k x b) (λ x b. itemFields j g k x b) (λ x p z q. item-placed i g k x p z q) (λ x p z q. item-placed j g k x p z q) (v .1) (p ++ x) z (n .1) in
-        (leaf-stands s p (y ++ z) (l .tag) (l .hidden) (v .0) (n .0), rw (n .2) at u)
+        (leaf-stands s p (y ++ z) l (v .0) (n .0), rw (n .2) at u)
 
 -- the fields of a record stand in it
 pub fields-stand : (r : Members) (v : Values r) → All (Stands (recordOf r v)) (fields r v)
@@ -126,6 +128,14 @@ fields-stand r v =
     let n = inside (recordOf r v) [] [] sequence c (sym (append-nil (recordOf r v))) in
     let m : length (sequence ∷ octets (length c)) ≡ before (length c) = omega arith in
     rw m at (run-placed (recordOf r v) r 0 v (sequence ∷ octets (length c)) [] (n .0))
+
+-- ---- a part is what its section has
+
+-- where a primitive item holds bytes, those that are handed out of it and those of its section are the same
+pub part-is-section : (l : Leaf) → IsBytes (l .holds) → (f : Field) (k : ℕ) (v : List ℕ) (b : ℕ)
+    → (x : Entry) × (itemFields (leaf l) f k v b ≡ x ∷ []) × (sheet (leaf l) v ≡ section (x .bytes))
+unfolding itemFields sheet
+part-is-section l i f k v b = (entry f k (startOf l v b) v, refl, ap section (section-is-value (l .holds) i v))
 
 -- ---- the first that passes
 

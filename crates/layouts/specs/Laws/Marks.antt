@@ -4,7 +4,7 @@ use Prim.Native.Nat.{ℕ, suc, zero, _+_, _-_, _≤_}
 use native.Mathlib.Omega.{arith}
 use mathlib.Core.Bool.{Bool, true, false, _||_}
 use mathlib.Core.List.{List, [], _∷_, _++_, append-nil}
-use lib.ListN.{length, drop, length-drop}
+use lib.ListN.{length}
 use lib.Seq.{take-length, slice}
 use lib.Dec.{T, ltb}
 use Rattle.terms.specs.declared.Field.{Field}
@@ -16,16 +16,15 @@ use Rattle.heads.specs.Scan.{headAt, outermostAt}
 use Rattle.heads.specs.Laws.Head.{head-back, outermost-back, length-tlv}
 use Rattle.heads.specs.declared.Seen.the-variants.{Item as At}
 use Rattle.heads.specs.declared.Step.{Step}
-use Rattle.contents.specs.Content.{Leaf}
-use Rattle.contents.specs.Leaves.{boolean}
+use Rattle.contents.specs.Leaves.{Leaf, boolean}
 use Rattle.layouts.specs.Layout.{Item, leaf, node, list, wrap, Members, end, _▸_, Member, known, one, maybe, flag, choose, tagOf, Value, Values, Part, encode, Ok}
-use Rattle.layouts.specs.Fields.{Entry, entry, eachFields, optionFields, eitherFields, flagFields, itemFields, runFields, partFields, fields}
+use Rattle.layouts.specs.Fields.{Entry, entry, startOf, eachFields, optionFields, eitherFields, flagFields, itemFields, runFields, partFields, fields}
 use Rattle.layouts.specs.Whole.{sequence, recordAt, accept}
 use Rattle.layouts.specs.Reading.{next, readLeaf, begins, many, readOption, readFlag, readEither, read, reads, readPart}
 use Rattle.layouts.specs.Scan.{scan}
 use Rattle.layouts.specs.Marks.{noted, notes, afterStep, thenTally, tally, manyMarks, leafMarks, marks, marksAll, marksPart}
 use Rattle.layouts.specs.declared.Tally.the-variants.{Items, Refused as Uncounted}
-use Rattle.layouts.specs.Laws.Reading.{leaf-back, many-back, finish-back, yes-back, backward, backwards, backwardPart}
+use Rattle.layouts.specs.Laws.Reading.{leaf-back, leaf-next, many-back, finish-back, yes-back, backward, backwards, backwardPart}
 use Rattle.layouts.specs.Laws.Scan.{by-window, Onward, step, head-parts, leaf-parts, leaf-agree, begins-agree, enough-agree, item-on, part-on, scan-read, part-read}
 
 -- to note two lists in a row is to note the second after the first
@@ -55,15 +54,11 @@ module _ (s : List ℕ) where
       let n = length-tlv t (c .content) in
       (b .0, omega arith, omega arith, k .1, omega arith)
 
-  -- a primitive item notes its content, past what is never handed out
+  -- a primitive item notes its value
   leaf-marks : (l : Leaf) (f : Field) (k p e : ℕ) → p ≤ e → e ≤ length s → (c : Cut) → readLeaf l (slice p e s) p ≡ good c → (d : List ℕ)
-      → leafMarks l f k s p e d ≡ notes (entry f k (p + before (length (c .content)) + l .hidden) (drop (l .hidden) (c .content)) ∷ []) d
+      → leafMarks l f k s p e d ≡ notes (entry f k (startOf l (c .content) p) (c .content) ∷ []) d
   unfolding leafMarks notes
-  leaf-marks l f k p e pe es c h d =
-      let b = leaf-back (l .tag) (l .rule) (slice p e s) p c h in
-      let n = length-tlv (l .tag) (c .content) in
-      let m = length-drop (l .hidden) (c .content) in
-      rw (leaf-agree s (l .tag) (l .rule) p e pe es, h) (noted-alike f k _ _ _ _ 0 d (omega arith) (omega arith))
+  leaf-marks l f k p e pe es c h d = rw (leaf-agree s l p e pe es, h, leaf-back l (slice p e s) p c h .2)
 
   -- a list's items are counted, and each is noted under its index
   module _ {A : Type 0} (f : ℕ → Step) (m : ℕ → ℕ → List ℕ → List ℕ) (g : List ℕ → ℕ → Res (Got A)) (en : A → List ℕ) (F : ℕ → A → ℕ → List Entry) (e : ℕ) (es : e ≤ length s)
@@ -142,15 +137,14 @@ module _ (s : List ℕ) where
         rw (begins-agree s (boolean .tag) p e pe es)
         (by-pick (begins (boolean .tag) (slice p e s)) _ _ x _ _ _ h
         (λ q. by-bind _ _ _ q λ c e₁ e₂.
-        let v = yes-back (c .content) (leaf-back (boolean .tag) (boolean .rule) (slice p e s) p c e₁ .1) in
-        let z : p + before 1 + 0 ≡ p + before 1 = omega arith in
-        rw (← good-inj e₂) (rw (v, z) at (leaf-marks boolean f k p e pe es c e₁ d)))
+        let v = yes-back (c .content) (leaf-back boolean (slice p e s) p c e₁ .1) in
+        rw (← good-inj e₂) (rw v at (leaf-marks boolean f k p e pe es c e₁ d)))
         (λ q. rw (← good-inj q)))
     marksPart-read (choose f l t g i j) k p e pe es x h d =
         by-bind _ _ _ h λ c e₁ e₂. by-bind _ _ _ e₂ λ a e₃ e₄.
-        let b = leaf-parts s (l .tag) (l .rule) p e pe es c e₁ in
-        let n = leaf-back (l .tag) (l .rule) (slice p e s) p c e₁ .2 in
-        rw (← good-inj e₄, leaf-agree s (l .tag) (l .rule) p e pe es, e₁, ← b .0, leaf-marks l f k p e pe es c e₁ d, ← n)
+        let b = leaf-parts s l p e pe es c e₁ in
+        let n = leaf-next l (slice p e s) p c e₁ in
+        rw (← good-inj e₄, leaf-agree s l p e pe es, e₁, ← b .0, leaf-marks l f k p e pe es c e₁ d, ← n)
         (by-pick (t (c .content)) _ _ a _ _ _ e₃
         (λ q. by-bind _ _ _ q λ y e₅ e₆. rw (← good-inj e₆) (marks-read i g k (next c) e (b .3) es y (rw (b .1) at e₅) _))
         (λ q. by-bind _ _ _ q λ y e₅ e₆. rw (← good-inj e₆) (marks-read j g k (next c) e (b .3) es y (rw (b .1) at e₅) _)))

@@ -6,19 +6,21 @@ use native.Mathlib.Omega.{arith}
 use mathlib.Core.Bool.{Bool, true, false, not, _&&_}
 use mathlib.Core.Option.{Option, none, some}
 use mathlib.Core.List.{List, [], _∷_, _++_, append-assoc, append-nil}
-use lib.ListN.{length, length-append}
+use lib.ListN.{length, take, drop, length-append, take-append-drop}
+use lib.Seq.{take-append-seam, drop-append-seam}
 use lib.Dec.{T, leb, ltb, eqb}
 use borrow.Author.Tests.{eq-eqb}
 use Rattle.terms.specs.Answer.{Res, good, Got, got, pick, bind, need, enough, same}
 use Rattle.terms.specs.Laws.Answer.{clash, good-inj, test, and-l, and-r, is-true, is-false, pick-yes, pick-no, by-bind, by-need, same-eq, same-refl}
 use Rattle.heads.specs.Head.{Cut, cutOff, tlv, octets, before, unspelled}
 use Rattle.heads.specs.Laws.Head.{head-tlv, head-back, length-tlv}
-use Rattle.contents.specs.Content.{Leaf, Check, fine, wrong, ask, judge, passes}
-use Rattle.contents.specs.Leaves.{boolean, knownRule}
+use Rattle.contents.specs.Content.{Check, fine, wrong, ask, judge, passes}
+use Rattle.contents.specs.Leaves.{Leaf, ruleOf, boolean, knownRule, only}
 use Rattle.contents.specs.Rules.{yes-byte, booleanRule, also, onlyRule}
 use Rattle.contents.specs.Laws.Leaves.{by-judge, by-ask, passed}
-use Rattle.layouts.specs.Layout.{Item, leaf, node, list, wrap, Members, end, _▸_, Member, known, one, maybe, flag, choose, tagOf, Value, Values, Part, All, InOption, InEither, Ok, Oks, OkPart, each, option, either, critical, encode, encodes, encodePart}
-use Rattle.layouts.specs.Reading.{next, readBy, begins, finish, many, readOption, readFlag, readEither, read, reads, readPart}
+use Rattle.layouts.specs.Layout.{Item, leaf, node, list, wrap, Members, end, _▸_, Member, known, one, maybe, flag, choose, tagOf, Value, Values, Part, All, InOption, InEither, Ok, Oks, OkPart, each, option, either, encodeLeaf, critical, encode, encodes, encodePart}
+use Rattle.layouts.specs.Fields.{startOf}
+use Rattle.layouts.specs.Reading.{next, behind, readLeaf, begins, finish, many, readOption, readFlag, readEither, read, reads, readPart}
 
 -- ---- layouts in which what may be missing cannot be mistaken, what is known is allowed, and no list is too long to count
 
@@ -60,7 +62,7 @@ unfoldable mutual
   clears (m ▸ r) = tells m r && (clearPart m && clears r)
 
   pub clearPart : Member → Bool
-  clearPart (known w) = passes (w .leaf .rule (w .content))
+  clearPart (known w) = passes (knownRule w (w .content))
   clearPart (one f i) = clear i
   clearPart (maybe f i) = clear i
   clearPart (flag f) = true
@@ -86,23 +88,42 @@ glue w x y r r′ p m n h k i j =
 
 -- ---- a leaf
 
-pub leaf-forward : (t : ℕ) (r : List ℕ → Check) (c w : List ℕ) (b : ℕ) → r c ≡ fine → length (tlv t c) < unspelled → readBy t r (tlv t c ++ w) b ≡ good (cutOff c w (b + before (length c)))
-unfolding readBy bind judge
-leaf-forward t r c w b ok h = let n = length-tlv t c in rw (head-tlv t c w b (omega arith), ok)
+behind-there : (f v w : List ℕ) (b s : ℕ) → behind f b (cutOff (f ++ v) w s) ≡ good (cutOff v w (s + length f))
+unfolding behind need
+behind-there f v w b s = rw (take-append-seam f v, drop-append-seam f v, is-true (same f f) (same-refl f))
 
-pub leaf-back : (t : ℕ) (r : List ℕ → Check) (w : List ℕ) (b : ℕ) (c : Cut) → readBy t r w b ≡ good c → (w ≡ tlv t (c .content) ++ c .rest) × (r (c .content) ≡ fine) × (next c ≡ b + length (tlv t (c .content)))
-unfolding readBy
-leaf-back t r w b x e =
-    by-bind _ _ _ e λ c e₁ e₂. by-judge _ _ _ _ _ e₂ λ ok e₃.
-    let q = head-back t w b c e₁ in
-    let n = length-tlv t (c .content) in
-    rw (← good-inj e₃) (q .0, ok, omega arith)
+pub behind-back : (f : List ℕ) (b : ℕ) (c v : Cut) → behind f b c ≡ good v → (c .content ≡ f ++ v .content) × (v .rest ≡ c .rest) × (v .start ≡ c .start + length f)
+unfolding behind
+behind-back f b c v e =
+    by-need _ _ _ _ _ e λ h e₁.
+    let q : take (length f) (c .content) ≡ f = same-eq _ _ h in
+    rw (← good-inj e₁) (sym (take-append-drop (length f) (c .content)) ∙ ap (λ (y : List ℕ). y ++ drop (length f) (c .content)) q, refl, refl)
 
--- a content that has to be one known content
-only-there : (r : List ℕ → Check) (k : List ℕ) (n : ℕ) → r k ≡ fine → onlyRule r k n k ≡ fine
-unfolding onlyRule also ask
-only-there r k n h = rw (h, is-true (same k k) (same-refl k))
+-- a primitive item's value ends where the item does
+pub leaf-ends : (l : Leaf) (v : List ℕ) (b : ℕ) → startOf l v b + length v ≡ b + length (encodeLeaf l v)
+unfolding encodeLeaf
+leaf-ends l v b = omega (arith, length-tlv (l .tag) (l .front ++ v), length-append (l .front) v)
 
+pub leaf-forward : (l : Leaf) (v w : List ℕ) (b : ℕ) → ruleOf (l .holds) v ≡ fine → length (encodeLeaf l v) < unspelled → readLeaf l (encodeLeaf l v ++ w) b ≡ good (cutOff v w (startOf l v b))
+unfolding readLeaf encodeLeaf bind judge
+leaf-forward l v w b ok h =
+    let f = l .front in
+    let n = length-tlv (l .tag) (f ++ v) in
+    rw (head-tlv (l .tag) (f ++ v) w b (omega arith), behind-there f v w b (b + before (length (f ++ v))), ok)
+
+pub leaf-back : (l : Leaf) (w : List ℕ) (b : ℕ) (v : Cut) → readLeaf l w b ≡ good v
+    → (w ≡ encodeLeaf l (v .content) ++ v .rest) × (ruleOf (l .holds) (v .content) ≡ fine) × (v .start ≡ startOf l (v .content) b)
+unfolding readLeaf encodeLeaf
+leaf-back l w b x e =
+    by-bind _ _ _ e λ c e₁ e₂. by-bind _ _ _ e₂ λ v e₃ e₄. by-judge _ _ _ _ _ e₄ λ ok e₅.
+    let q = head-back (l .tag) w b c e₁ in
+    let u = behind-back (l .front) b c v e₃ in
+    rw (← good-inj e₅, ← u .0, u .1) (q .0, ok, u .2 ∙ ap (λ (m : ℕ). m + length (l .front)) (q .1))
+
+pub leaf-next : (l : Leaf) (w : List ℕ) (b : ℕ) (v : Cut) → readLeaf l w b ≡ good v → next v ≡ b + length (encodeLeaf l (v .content))
+leaf-next l w b v e = ap (λ (m : ℕ). m + length (v .content)) (leaf-back l w b v e .2) ∙ leaf-ends l (v .content) b
+
+-- a value that has to be one known content
 only-back : (r : List ℕ → Check) (k : List ℕ) (n : ℕ) (c : List ℕ) → onlyRule r k n c ≡ fine → c ≡ k
 unfolding onlyRule also
 only-back r k n c h = go (r c) h
@@ -176,9 +197,13 @@ pub yes-back : (c : List ℕ) → booleanRule c ≡ fine → c ≡ yes-byte
 unfolding booleanRule
 yes-back c h = by-ask _ _ _ h λ t e. same-eq c yes t
 
+begins-leaf : (l : Leaf) (v w : List ℕ) → begins (l .tag) (encodeLeaf l v ++ w) ≡ true
+unfolding begins encodeLeaf tlv
+begins-leaf l v w = eq-eqb (l .tag) (l .tag) refl
+
 pub flag-forward : (v : Bool) (w : List ℕ) (b : ℕ) → begins (boolean .tag) w ≡ false → length (critical v) < unspelled → readFlag (critical v ++ w) b ≡ good (got v w (b + length (critical v)))
-unfolding readFlag critical bind pick begins tlv
-flag-forward true w b q h = rw (leaf-forward (boolean .tag) (boolean .rule) yes w b boolean-yes h) (ap (λ (m : ℕ). good (got true w m)) (let e = length-tlv (boolean .tag) yes in omega arith))
+unfolding readFlag critical bind pick
+flag-forward true w b q h = rw (begins-leaf boolean yes w, leaf-forward boolean yes w b boolean-yes h) (ap (λ (m : ℕ). good (got true w m)) (leaf-ends boolean yes b))
 flag-forward false w b q h = rw q (ap (λ (m : ℕ). good (got false w m)) (omega arith))
 
 pub flag-back : Backward readFlag critical (λ v. Unit {0})
@@ -186,9 +211,9 @@ unfolding readFlag critical
 flag-back w b x q =
     test (begins (boolean .tag) w)
     (λ h. by-bind _ _ _ (sym (pick-yes (begins (boolean .tag) w) _ _ h) ∙ q) λ c e₁ e₂.
-    let u = leaf-back (boolean .tag) (boolean .rule) w b c e₁ in
+    let u = leaf-back boolean w b c e₁ in
     let v = yes-back (c .content) (u .1) in
-    rw (← good-inj e₂) (rw v at (u .0), tt, u .2 ∙ ap (λ (y : List ℕ). b + length (tlv (boolean .tag) y)) v))
+    rw (← good-inj e₂) (rw v at (u .0), tt, leaf-next boolean w b c e₁ ∙ ap (λ (y : List ℕ). b + length (encodeLeaf boolean y)) v))
     (λ h. rw (← good-inj (sym (pick-no (begins (boolean .tag) w) _ _ h) ∙ q)) (refl, tt, omega arith))
 
 -- ---- one of two items
@@ -209,8 +234,8 @@ module _ {A B : Type 0} (f : List ℕ → ℕ → Res (Got A)) (e : A → List �
 -- ---- what bytes begin with
 
 pub starts : (i : Item) → Starts (tagOf i) (λ v. encode i v)
-unfolding encode tlv
-starts (leaf l) c = (octets (length c) ++ c, refl)
+unfolding encode encodeLeaf tlv
+starts (leaf l) v = (octets (length (l .front ++ v)) ++ (l .front ++ v), refl)
 starts (node t r) v = (octets (length (encodes r v)) ++ encodes r v, refl)
 starts (list t e n f i) vs = (octets (length (each (λ v. encode i v) vs)) ++ each (λ v. encode i v) vs, refl)
 starts (wrap t i) v = (octets (length (encode i v)) ++ encode i v, refl)
@@ -230,12 +255,12 @@ begins-option t e none w p q = p
 begins-option t e (some a) w p q = q a
 
 begins-critical : (t : ℕ) (v : Bool) (w : List ℕ) → begins t w ≡ false → T (not (eqb (boolean .tag) t)) → begins t (critical v ++ w) ≡ false
-unfolding critical
+unfolding critical encodeLeaf
 begins-critical t true w p q = begins-tlv t (boolean .tag) yes w q
 begins-critical t false w p q = p
 
 begins-apart : (t : ℕ) (r : Members) (v : Values r) → T (apart t r) → begins t (encodes r v) ≡ false
-unfolding begins encodes apart
+unfolding begins encodes encodeLeaf apart
 begins-apart t end v h = refl
 begins-apart t (known w ▸ r) v h = begins-tlv t (w .leaf .tag) (w .content) (encodes r (v .1)) h
 begins-apart t (one f i ▸ r) v h = begins-other t i (v .0) (encodes r (v .1)) h
@@ -248,8 +273,8 @@ begins-apart t (flag f ▸ r) v h =
     (begins-apart t r (v .1) (and-r (not (eqb (boolean .tag) t)) (apart t r) h))
     (and-l (not (eqb (boolean .tag) t)) (apart t r) h)
 begins-apart t (choose f l g k i j ▸ r) v h =
-    rw (append-assoc (tlv (l .tag) (v .0 .0)) (either (λ x. encode i x) (λ x. encode j x) (v .0 .1)) (encodes r (v .1)))
-    (begins-tlv t (l .tag) (v .0 .0) (either (λ x. encode i x) (λ x. encode j x) (v .0 .1) ++ encodes r (v .1)) h)
+    rw (append-assoc (encodeLeaf l (v .0 .0)) (either (λ x. encode i x) (λ x. encode j x) (v .0 .1)) (encodes r (v .1)))
+    (begins-tlv t (l .tag) (l .front ++ v .0 .0) (either (λ x. encode i x) (λ x. encode j x) (v .0 .1) ++ encodes r (v .1)) h)
 
 -- what follows a member that may be missing does not begin as it does
 abbrev Follows : Member → List ℕ → Type 0
@@ -279,9 +304,7 @@ mutual
   unfolding read encode clear bind need finish
 
   pub forward : (i : Item) → T (clear i) → Forward (λ w b. read i w b) (λ v. encode i v) (λ v. Ok i v)
-  forward (leaf l) k v ok w b h =
-      let m = length-tlv (l .tag) v in
-      rw (leaf-forward (l .tag) (l .rule) v w b ok h) (ap (λ (m : ℕ). good (got v w m)) (omega arith))
+  forward (leaf l) k v ok w b h = rw (leaf-forward l v w b ok h) (ap (λ (m : ℕ). good (got v w m)) (leaf-ends l v b))
   forward (node t r) k v ok w b h =
       let m = length-tlv t (encodes r v) in
       rw (head-tlv t (encodes r v) w b (omega arith), forwards r (and-r (leb (spare r) 16) (clears r) k) v ok (b + before (length (encodes r v))) (omega arith))
@@ -314,23 +337,19 @@ mutual
   pub forwardPart : (m : Member) → T (clearPart m) → (v : Part m) → OkPart m v → (w : List ℕ) (b : ℕ) → Follows m w → length (encodePart m v) < unspelled
       → readPart m (encodePart m v ++ w) b ≡ good (got v w (b + length (encodePart m v)))
   forwardPart (known x) k v ok w b q h =
-      let l : Leaf = x .leaf in
-      let c : List ℕ = x .content in
-      let m = length-tlv (l .tag) c in
-      rw (leaf-forward (l .tag) (knownRule x) c w b (only-there (l .rule) c (x .other) (passed (l .rule c) k)) h) (ap (λ (m : ℕ). good (got v w m)) (omega arith))
+      rw (leaf-forward (only x) (x .content) w b (passed (knownRule x (x .content)) k) h) (ap (λ (m : ℕ). good (got v w m)) (leaf-ends (only x) (x .content) b))
   forwardPart (one f i) k v ok w b q h = forward i k v ok w b h
   forwardPart (maybe f i) k v ok w b q h =
       option-forward (λ x p. read i x p) (λ x. encode i x) (λ x. Ok i x) (λ x o w p q. forward i k x o w p q) (tagOf i) (starts i) v ok w b q h
   forwardPart (flag f) k v ok w b q h = flag-forward v w b q h
   forwardPart (choose f l t g i j) k v ok w b q h =
-      let x : List ℕ = tlv (l .tag) (v .0) in
+      let x : List ℕ = encodeLeaf l (v .0) in
       let y : List ℕ = either (λ x. encode i x) (λ x. encode j x) (v .1) in
       let m = length-append x y in
-      let o : b + before (length (v .0)) + length (v .0) ≡ b + length x = omega (arith, length-tlv (l .tag) (v .0)) in
       rw (
         append-assoc x y w,
-        leaf-forward (l .tag) (l .rule) (v .0) (y ++ w) b (ok .0) (omega arith),
-        o,
+        leaf-forward l (v .0) (y ++ w) b (ok .0) (omega arith),
+        leaf-ends l (v .0) b,
         either-forward (λ x p. read i x p) (λ x. encode i x) (λ x. Ok i x) (λ x p. read j x p) (λ x. encode j x) (λ x. Ok j x) (t (v .0))
             (λ x o w p q. forward i (and-l (clear i) (clear j) k) x o w p q) (λ x o w p q. forward j (and-r (clear i) (clear j) k) x o w p q)
             (v .1) (ok .1) w (b + length x) (omega arith),
@@ -355,7 +374,7 @@ mutual
 
   pub backward : (i : Item) → Backward (λ w b. read i w b) (λ v. encode i v) (λ v. Ok i v)
   backward (leaf l) w b x q =
-      by-bind _ _ _ q λ a e₁ e₂. rw (← good-inj e₂) (leaf-back (l .tag) (l .rule) w b a e₁)
+      by-bind _ _ _ q λ a e₁ e₂. let u = leaf-back l w b a e₁ in rw (← good-inj e₂) (u .0, u .1, leaf-next l w b a e₁)
   backward (node t r) w b x q =
       by-bind _ _ _ q λ c e₁ e₂. by-bind _ _ _ e₂ λ v e₃ e₄.
       let u = head-back t w b c e₁ in
@@ -389,18 +408,17 @@ mutual
   pub backwardPart : (m : Member) → Backward (λ w b. readPart m w b) (λ v. encodePart m v) (λ v. OkPart m v)
   backwardPart (known y) w b x q =
       by-bind _ _ _ q λ a e₁ e₂.
-      let l : Leaf = y .leaf in
-      let u = leaf-back (l .tag) (knownRule y) w b a e₁ in
-      let v = only-back (l .rule) (y .content) (y .other) (a .content) (u .1) in
-      rw (← good-inj e₂) (rw v at (u .0), tt, u .2 ∙ ap (λ (z : List ℕ). b + length (tlv (l .tag) z)) v)
+      let u = leaf-back (only y) w b a e₁ in
+      let v = only-back (ruleOf (y .leaf .holds)) (y .content) (y .other) (a .content) (u .1) in
+      rw (← good-inj e₂) (rw v at (u .0), tt, leaf-next (only y) w b a e₁ ∙ ap (λ (z : List ℕ). b + length (encodeLeaf (only y) z)) v)
   backwardPart (one f i) w b x q = backward i w b x q
   backwardPart (maybe f i) w b x q = option-back (λ x p. read i x p) (λ x. encode i x) (λ x. Ok i x) (λ y p z g. backward i y p z g) (tagOf i) w b x q
   backwardPart (flag f) w b x q = flag-back w b x q
   backwardPart (choose f l t g i j) w b x q =
       by-bind _ _ _ q λ c e₁ e₂. by-bind _ _ _ e₂ λ a e₃ e₄.
-      let y = leaf-back (l .tag) (l .rule) w b c e₁ in
+      let y = leaf-back l w b c e₁ in
       let u = either-back (λ x p. read i x p) (λ x. encode i x) (λ x. Ok i x) (λ x p. read j x p) (λ x. encode j x) (λ x. Ok j x) (t (c .content)) (λ y p z g. backward i y p z g) (λ y p z g. backward j y p z g) (c .rest) (next c) a e₃ in
-      let z = glue w (tlv (l .tag) (c .content)) (either (λ x. encode i x) (λ x. encode j x) (a .value)) (c .rest) (a .rest) b (next c) (a .after) (y .0) (u .0) (y .2) (u .2) in
+      let z = glue w (encodeLeaf l (c .content)) (either (λ x. encode i x) (λ x. encode j x) (a .value)) (c .rest) (a .rest) b (next c) (a .after) (y .0) (u .0) (leaf-next l w b c e₁) (u .2) in
       rw (← good-inj e₄) (z .0, (y .1, u .1), z .1)
 
 -- ---- from the two laws

@@ -3,29 +3,31 @@ use mathlib.Core.Path.{_≡_, refl, sym, ap, _∙_}
 use mathlib.Core.Logic.{_⊎_, inl, inr}
 use Prim.Native.Nat.{ℕ, suc, zero, _+_, _-_, _≤_, _<_}
 use native.Mathlib.Omega.{arith}
+use native.Mathlib.Nat.{add-zero}
 use mathlib.Core.Bool.{Bool, true, false, _&&_, _||_}
 use mathlib.Core.List.{List, [], _∷_, _++_, append-assoc}
 use lib.ListN.{length, getD, take, drop, length-append}
 use lib.Seq.{take-length, slice, slice-empty, slice-cons, length-slice, drop-drop, take-add, drop-at, take-at, length-take-le, take-take}
 use lib.Dec.{ltb, eqb, ltb→lt, nltb→le}
 use borrow.Author.Tests.{lt-ltb, le-ltb}
-use Rattle.terms.specs.Numbers.{left-over, no-item, too-many-items}
-use Rattle.terms.specs.Answer.{Res, good, fault, Got, got, pick, bind, need, enough}
-use Rattle.terms.specs.Laws.Answer.{good-inj, test, by-bind}
-use Rattle.heads.specs.Head.{Cut, head, outermost, tlv, octets}
+use Rattle.terms.specs.Numbers.{left-over, bad-bits, no-item, too-many-items}
+use Rattle.terms.specs.Answer.{Res, good, fault, Got, got, pick, bind, need, enough, same}
+use Rattle.terms.specs.Laws.Answer.{good-inj, test, is-true, is-false, by-bind, need-eq}
+use Rattle.heads.specs.Head.{Cut, cutOff, head, outermost, tlv, octets}
 use Rattle.heads.specs.Scan.{seen, headAt, outermostAt}
 use Rattle.heads.specs.Laws.Head.{head-back, outermost-back}
 use Rattle.heads.specs.declared.Seen.{Seen}
 use Rattle.heads.specs.declared.Step.{Step}
 use Rattle.heads.specs.declared.Step.the-variants.{Next, Refused}
 use Rattle.contents.specs.Content.{Check, fine, wrong, judge}
-use Rattle.contents.specs.Leaves.{boolean, knownRule}
+use Rattle.contents.specs.Leaves.{Leaf, ruleOf, boolean, only}
+use Rattle.contents.specs.Scan.{checked, checkedAt, behindAt, contentAt}
 use Rattle.contents.specs.Laws.Leaves.{by-judge}
 use Rattle.layouts.specs.Layout.{Item, leaf, node, list, wrap, Members, end, _▸_, Member, known, one, maybe, flag, choose, tagOf, Value, Values, Part, encode, encodePart}
 use Rattle.layouts.specs.Whole.{sequence, recordAt, accept}
-use Rattle.layouts.specs.Reading.{next, readBy, begins, finish, many, readOption, readFlag, readEither, read, reads, readPart}
-use Rattle.layouts.specs.Scan.{thenSeen, thenStep, judgeAt, thenJudge, ruleAt, beginsAt, closeAt, scanMany, scan, scans, scanPart, recordScan, wholeScan}
-use Rattle.layouts.specs.Laws.Reading.{backward, backwardPart}
+use Rattle.layouts.specs.Reading.{next, behind, readLeaf, begins, finish, many, readOption, readFlag, readEither, read, reads, readPart}
+use Rattle.layouts.specs.Scan.{thenSeen, thenStep, judgedAt, thenJudge, leafAt, beginsAt, closeAt, scanMany, scan, scans, scanPart, recordScan, wholeScan}
+use Rattle.layouts.specs.Laws.Reading.{behind-back, backward, backwardPart}
 
 -- ---- windows of a slice
 
@@ -84,8 +86,8 @@ unfolding bind
 judge-bind (good c) k K f = f c refl
 judge-bind (fault n q) k K f = refl
 
-seen-judge : (k : Check) (p : ℕ) (c : Cut) → judgeAt k p (c .start) (next c) ≡ seen (judge k p (c .start) (good c))
-unfolding judge
+seen-judge : (k : Check) (p : ℕ) (c : Cut) → judgedAt (checked k p (c .start)) (c .start) (next c) ≡ seen (judge k p (c .start) (good c))
+unfolding judge judgedAt
 seen-judge fine p c = refl
 seen-judge (wrong n x) p c = refl
 
@@ -137,18 +139,42 @@ module _ (s : List ℕ) where
       let o′ = onward (c .start) e s (c .content) (c .rest) (next c) (o .2) es (sym (o .0)) refl in
       (front-slice (c .start) e s (c .content) (c .rest) (o .2) es (sym (o .0)), o′ .0, o .1, o′ .2)
 
-  -- a primitive item's parts too
-  pub leaf-parts : (t : ℕ) (r : List ℕ → Check) (p e : ℕ) → p ≤ e → e ≤ length s → (c : Cut) → readBy t r (slice p e s) p ≡ good c → Parts p e c
-  unfolding readBy
-  leaf-parts t r p e pe es x q =
-      by-bind _ _ _ q λ c e₁ e₂. by-judge _ _ _ _ _ e₂ λ ok e₃. rw (← good-inj e₃) (head-parts t p e pe es c e₁)
+  -- a primitive item's value too, behind what its content begins with
+  behind-parts : (f : List ℕ) (p e b : ℕ) (c v : Cut) → behind f b c ≡ good v → Parts p e c → Parts p e v × (next v ≡ next c)
+  behind-parts f p e b c v h (q, r, l, m) =
+      let (x, y, z) = behind-back f b c v h in
+      let n : next v ≡ next c = omega (arith, ap length x ∙ length-append f (v .content)) in
+      let d : v .content ≡ slice (v .start) (next c) s =
+      sym (drop-at f (v .content) (length f) refl) ∙ ap (drop (length f)) (sym x ∙ q) ∙ drop-drop (length f) (c .start) (take (next c) s) ∙ ap (λ (k : ℕ). slice k (next c) s) (sym z) in
+      (rw n (d, y ∙ r, omega arith, m), n)
 
-  pub leaf-agree : (t : ℕ) (r : List ℕ → Check) (p e : ℕ) → p ≤ e → e ≤ length s → ruleAt t r s p e ≡ seen (readBy t r (slice p e s) p)
-  unfolding ruleAt readBy headAt
-  leaf-agree t r p e pe es =
-      judge-bind _ _ _ λ c h.
-      let b = head-parts t p e pe es c h in
-      rw (← b .0) (seen-judge (r (c .content)) p c)
+  pub leaf-parts : (l : Leaf) (p e : ℕ) → p ≤ e → e ≤ length s → (c : Cut) → readLeaf l (slice p e s) p ≡ good c → Parts p e c
+  unfolding readLeaf
+  leaf-parts l p e pe es x q =
+      by-bind _ _ _ q λ c e₁ e₂. by-bind _ _ _ e₂ λ v e₃ e₄. by-judge _ _ _ _ _ e₄ λ ok e₅.
+      rw (← good-inj e₅) (behind-parts (l .front) p e p c v e₃ (head-parts (l .tag) p e pe es c e₁) .0)
+
+  -- what code answers of a content, whatever it begins with
+  content-by : (f : List ℕ) (rule : List ℕ → Check) (p a z : ℕ) → contentAt f rule s p a z ≡ behindAt f rule s p a z
+  unfolding behindAt pick same
+  content-by [] rule p a z = rw (add-zero a)
+  content-by (b ∷ f) rule p a z = refl
+
+  content-agree : (f : List ℕ) (rule : List ℕ → Check) (p e : ℕ) (c : Cut) → Parts p e c
+      → judgedAt (contentAt f rule s p (c .start) (next c)) (c .start + length f) (next c) ≡ seen (bind (behind f p c) λ v. judge (rule (v .content)) p (v .start) (good v))
+  unfolding judgedAt behindAt checkedAt behind pick bind need
+  content-agree f rule p e c b =
+      let v : Cut = cutOff (drop (length f) (c .content)) (c .rest) (c .start + length f) in
+      rw (content-by f rule p (c .start) (next c), ← b .0)
+      (test (same (take (length f) (c .content)) f)
+      (λ t. let (q, m) = behind-parts f p e p c v (need-eq (same (take (length f) (c .content)) f) bad-bits p (good v) t) b in
+      let d : v .content ≡ slice (v .start) (next c) s = rw m at (q .0) in
+      rw (is-true (same (take (length f) (c .content)) f) t, ← d) (rw m at (seen-judge (rule (v .content)) p v)))
+      (λ t. rw (is-false (same (take (length f) (c .content)) f) t)))
+
+  pub leaf-agree : (l : Leaf) (p e : ℕ) → p ≤ e → e ≤ length s → leafAt l s p e ≡ seen (readLeaf l (slice p e s) p)
+  unfolding leafAt readLeaf headAt
+  leaf-agree l p e pe es = judge-bind _ _ _ λ c h. content-agree (l .front) (ruleOf (l .holds)) p e c (head-parts (l .tag) p e pe es c h)
 
   pub begins-agree : (t p e : ℕ) → p ≤ e → e ≤ length s → beginsAt t s p e ≡ begins t (slice p e s)
   unfolding beginsAt begins
@@ -190,7 +216,7 @@ module _ (s : List ℕ) where
 
     pub scan-read : (i : Item) (p e : ℕ) → p ≤ e → e ≤ length s → scan i s p e ≡ step (read i (slice p e s) p)
     scan-read (leaf l) p e pe es =
-        rw (leaf-agree (l .tag) (l .rule) p e pe es) (seen-bind (λ x. x .after) _ _ _ λ c h. refl)
+        rw (leaf-agree l p e pe es) (seen-bind (λ x. x .after) _ _ _ λ c h. refl)
     scan-read (node t r) p e pe es =
         seen-bind (λ x. x .after) _ _ _ λ c h.
         let b = head-parts t p e pe es c h in
@@ -225,18 +251,18 @@ module _ (s : List ℕ) where
 
     pub part-read : (m : Member) (p e : ℕ) → p ≤ e → e ≤ length s → scanPart m s p e ≡ step (readPart m (slice p e s) p)
     part-read (known k) p e pe es =
-        rw (leaf-agree (k .leaf .tag) (knownRule k) p e pe es) (seen-bind (λ x. x .after) _ _ _ λ c h. refl)
+        rw (leaf-agree (only k) p e pe es) (seen-bind (λ x. x .after) _ _ _ λ c h. refl)
     part-read (one f i) p e pe es = scan-read i p e pe es
     part-read (maybe f i) p e pe es =
         rw (begins-agree (tagOf i) p e pe es, scan-read i p e pe es)
         (out-pick (λ x. x .after) (begins (tagOf i) (slice p e s)) _ _ _ _ (out-map (λ x. x .after) (λ x. x .after) _ _ λ a. refl) refl)
     part-read (flag f) p e pe es =
-        rw (begins-agree (boolean .tag) p e pe es, leaf-agree (boolean .tag) (boolean .rule) p e pe es)
+        rw (begins-agree (boolean .tag) p e pe es, leaf-agree boolean p e pe es)
         (out-pick (λ x. x .after) (begins (boolean .tag) (slice p e s)) _ _ _ _ (seen-bind (λ x. x .after) _ _ _ λ c h. refl) refl)
     part-read (choose f l t g i j) p e pe es =
-        rw (leaf-agree (l .tag) (l .rule) p e pe es)
+        rw (leaf-agree l p e pe es)
         (seen-bind (λ x. x .after) _ _ _ λ c h.
-        let b = leaf-parts (l .tag) (l .rule) p e pe es c h in
+        let b = leaf-parts l p e pe es c h in
         rw (← b .0, scan-read i (next c) e (b .3) es, scan-read j (next c) e (b .3) es, ← b .1)
         (choose-read (λ x q. read i x q) (λ x q. read j x q) (t (c .content)) (c .content) (c .rest) (next c)))
 

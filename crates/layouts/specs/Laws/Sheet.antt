@@ -15,9 +15,10 @@ use Rattle.terms.specs.Laws.Answer.{good-inj, test, and-l, and-r, pick-yes, pic
 use Rattle.terms.specs.Laws.Digits.{leading-there, leading-back, length-digits}
 use Rattle.heads.specs.Head.{Cut, cutOff, tlv, unspelled}
 use Rattle.heads.specs.Laws.Head.{length-tlv, octets-some}
-use Rattle.contents.specs.Content.{fine, Leaf, judge}
-use Rattle.contents.specs.Laws.Leaves.{by-judge}
-use Rattle.layouts.specs.Layout.{Item, leaf, node, list, wrap, Members, end, _▸_, Member, known, one, maybe, flag, choose, All, InOption, InEither, Ok, Oks, OkPart, each, option, either, critical, encode, encodes, encodePart}
+use Rattle.contents.specs.Content.{fine, judge}
+use Rattle.contents.specs.Leaves.{Leaf, ruleOf, sectionOf}
+use Rattle.contents.specs.Laws.Leaves.{by-judge, value-there, value-back, section-near}
+use Rattle.layouts.specs.Layout.{Item, leaf, node, list, wrap, Members, end, _▸_, Member, known, one, maybe, flag, choose, All, InOption, InEither, Ok, Oks, OkPart, each, option, either, encodeLeaf, critical, encode, encodes, encodePart}
 use Rattle.layouts.specs.Reading.{next, readEither}
 use Rattle.layouts.specs.Sheet.{count-bytes, count, section, criticalByte, sheetOption, sheetList, sheet, sheets, sheetPart, readCount, readSection, fillLeaf, times, criticalIn, fillFlag, fillOption, fillList, fill, fills, fillPart}
 use Rattle.layouts.specs.Laws.Reading.{tells, spare, clear, clears, clearPart, Written, Backward, glue, either-back}
@@ -64,18 +65,19 @@ section-back w p x e =
 abbrev Filled : {A : Type 0} → (List ℕ → ℕ → Res (Got A)) → (A → List ℕ) → (A → Type 0) → Type 0
 Filled {A} f e P = (a : A) → P a → (w : List ℕ) (p : ℕ) → length (e a) < uncounted → f (e a ++ w) p ≡ good (got a w (p + length (e a)))
 
-leaf-filled : (l : Leaf) → Filled (fillLeaf l) (λ c. section (l .pack c)) (λ c. l .rule c ≡ fine)
+leaf-filled : (l : Leaf) → Filled (fillLeaf l) (λ v. section (sectionOf (l .holds) v)) (λ v. ruleOf (l .holds) v ≡ fine)
 unfolding fillLeaf bind have judge
-leaf-filled l c ok w p h =
-    let m = length-section (l .pack c) in
-    rw (section-there (l .pack c) w p (omega arith), l .there c ok, ok) (ap (λ (m : ℕ). good (got c w m)) (omega arith))
+leaf-filled l v ok w p h =
+    let x : List ℕ = sectionOf (l .holds) v in
+    let m = length-section x in
+    rw (section-there x w p (omega arith), value-there (l .holds) v ok, ok) (ap (λ (m : ℕ). good (got v w m)) (omega arith))
 
-leaf-unfilled : (l : Leaf) → Backward (fillLeaf l) (λ c. section (l .pack c)) (λ c. l .rule c ≡ fine)
+leaf-unfilled : (l : Leaf) → Backward (fillLeaf l) (λ v. section (sectionOf (l .holds) v)) (λ v. ruleOf (l .holds) v ≡ fine)
 unfolding fillLeaf
 leaf-unfilled l w p x e =
     by-bind _ _ _ e λ c e₁ e₂. by-bind _ _ _ e₂ λ k e₃ e₄. by-judge _ _ _ _ _ e₄ λ ok e₅. by-have _ _ _ _ e₃ λ u.
     let q = section-back w p c e₁ in
-    rw (← good-inj e₅, l .back (c .content) k u) (q .0, ok, q .1)
+    rw (← good-inj e₅, value-back (l .holds) (c .content) k u) (q .0, ok, q .1)
 
 -- ---- the flag
 
@@ -216,7 +218,7 @@ mutual
   filledPart (maybe f i) k v ok w p h = option-filled (λ x q. fill i x q) (λ x. sheet i x) (λ x. Ok i x) (λ x o w q g. filled i k x o w q g) v ok w p h
   filledPart (flag f) k v ok w p h = flag-filled v ok w p h
   filledPart (choose f l t g i j) k v ok w p h =
-      let x : List ℕ = section (l .pack (v .0)) in
+      let x : List ℕ = section (sectionOf (l .holds) (v .0)) in
       let y : List ℕ = either (λ x. sheet i x) (λ x. sheet j x) (v .1) in
       let m = length-append x y in
       rw (
@@ -255,7 +257,7 @@ mutual
       by-bind _ _ _ q λ c e₁ e₂. by-bind _ _ _ e₂ λ a e₃ e₄.
       let s = leaf-unfilled l w p c e₁ in
       let u = either-back (λ x q. fill i x q) (λ x. sheet i x) (λ x. Ok i x) (λ x q. fill j x q) (λ x. sheet j x) (λ x. Ok j x) (t (c .value)) (λ y p z g. unfilled i y p z g) (λ y p z g. unfilled j y p z g) (c .rest) (c .after) a e₃ in
-      let z = glue w (section (l .pack (c .value))) (either (λ x. sheet i x) (λ x. sheet j x) (a .value)) (c .rest) (a .rest) p (c .after) (a .after) (s .0) (u .0) (s .2) (u .2) in
+      let z = glue w (section (sectionOf (l .holds) (c .value))) (either (λ x. sheet i x) (λ x. sheet j x) (a .value)) (c .rest) (a .rest) p (c .after) (a .after) (s .0) (u .0) (s .2) (u .2) in
       rw (← good-inj e₄) (z .0, (s .1, u .1), z .1)
 
 -- ---- a sheet is not much longer than its record
@@ -267,8 +269,10 @@ Short {A} k f g = (a : A) → length (g a) < unspelled → length (f a) ≤ 8 * 
 tlv-some : (t : ℕ) (c : List ℕ) → length (tlv t c) < unspelled → 2 + length c ≤ length (tlv t c)
 tlv-some t c h = let e = length-tlv t c in let o = octets-some (length c) (omega arith) in omega arith
 
-leaf-short : (l : Leaf) → Short 0 (λ c. section (l .pack c)) (λ c. tlv (l .tag) c)
-leaf-short l c h = omega (arith, length-section (l .pack c), l .near c, tlv-some (l .tag) c h)
+leaf-short : (l : Leaf) → Short 0 (λ v. section (sectionOf (l .holds) v)) (λ v. encodeLeaf l v)
+unfolding encodeLeaf
+leaf-short l v h =
+    omega (arith, length-section (sectionOf (l .holds) v), section-near (l .holds) v, tlv-some (l .tag) (l .front ++ v) h, length-append (l .front) v)
 
 each-short : {A : Type 0} (f g : A → List ℕ) → Short 0 f g → Short 0 (each f) (each g)
 unfolding each
@@ -341,10 +345,10 @@ mutual
   shortPart (choose f l t g i j) k v h =
       let x = either (λ x. sheet i x) (λ x. sheet j x) (v .1) in
       let y = either (λ x. encode i x) (λ x. encode j x) (v .1) in
-      let n = length-append (tlv (l .tag) (v .0)) y in
+      let n = length-append (encodeLeaf l (v .0)) y in
       omega (
         arith,
         leaf-short l (v .0) (omega arith),
         either-short (λ x. sheet i x) (λ x. encode i x) (λ x. sheet j x) (λ x. encode j x) (λ x g. short i (and-l (clear i) (clear j) k) x g) (λ x g. short j (and-r (clear i) (clear j) k) x g) (v .1) (omega arith),
-        length-append (section (l .pack (v .0))) x,
+        length-append (section (sectionOf (l .holds) (v .0))) x,
       )

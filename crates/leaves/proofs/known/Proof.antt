@@ -1,5 +1,5 @@
 -- `leaves::known`: the head, then the rule of the known content.
-use Rattle.leaves.specs.Laws.{rule-refused, rule-judged}
+use Rattle.leaves.specs.Laws.{leaf-refused, known-judged}
 use borrow.Author.Needs.{needs}
 use Rattle.leaves.proofs.known.Statement.{statement}
 use Rattle.leaves.proofs.known.Tie as tie
@@ -17,7 +17,7 @@ enum-told : tie.Need-enum-told
 enum-told c = search needs
 
 returns : tie.Need-returns
-returns c = search (needs, rule-refused)
+returns c = search (needs, leaf-refused)
 
 word-rule-requires : tie.Need-word-rule-requires
 word-rule-requires c κs = search needs
@@ -26,7 +26,7 @@ judged-requires : tie.Need-judged-requires
 judged-requires c κs = search needs
 
 returns-2 : tie.Need-returns-2
-returns-2 c = search (needs, rule-judged)
+returns-2 c = search (needs, known-judged)
 
 pub known-spec : {M : Type 1} → statement M
 known-spec =

@@ -1,5 +1,5 @@
--- `leaves::leaf`: the head, then the rule of its content.
-use Rattle.leaves.specs.Laws.{rule-refused, rule-judged}
+-- `leaves::leaf`: the head, then the rule of its content; its value stands behind what its content begins with.
+use Rattle.leaves.specs.Laws.{leaf-refused, leaf-judged, head-inside}
 use borrow.Author.Needs.{needs}
 use Rattle.leaves.proofs.leaf.Statement.{statement}
 use Rattle.leaves.proofs.leaf.Tie as tie
@@ -17,16 +17,22 @@ enum-told : tie.Need-enum-told
 enum-told c = search needs
 
 returns : tie.Need-returns
-returns c = search (needs, rule-refused)
+returns c = search (needs, leaf-refused)
 
 rule-requires : tie.Need-rule-requires
 rule-requires c κs = search needs
+
+hidden-of-requires : tie.Need-hidden-of-requires
+hidden-of-requires c κs = search needs
+
+add-judged : tie.Need-add-judged
+add-judged c = let m = head-inside _ _ _ _ _ _ _ (c .before .before .before .before .before .head .ensures) (c .before .before .before .h .given .1) in search needs
 
 judged-requires : tie.Need-judged-requires
 judged-requires c κs = search needs
 
 returns-2 : tie.Need-returns-2
-returns-2 c = search (needs, rule-judged)
+returns-2 c = search (needs, leaf-judged)
 
 pub leaf-spec : {M : Type 1} → statement M
 leaf-spec =
@@ -38,5 +44,7 @@ leaf-spec =
     enum-told
     returns
     rule-requires
+    hidden-of-requires
+    add-judged
     judged-requires
     returns-2)

@@ -10,7 +10,7 @@ use Rattle.terms.specs.declared.Field.{Field}
 use Rattle.terms.specs.declared.Field.the-variants.{SignedPart, SealInformation}
 use Rattle.terms.specs.Names.{code, sameName}
 use Rattle.terms.specs.Numbers.{largest-record}
-use Rattle.terms.specs.Answer.{Res, good, pick, enough}
+use Rattle.terms.specs.Answer.{Res, good, pick, enough, same}
 use Rattle.terms.specs.Laws.Answer.{good-inj, and-l, and-r}
 use Rattle.terms.specs.Digits.{numberFrom}
 use Rattle.heads.specs.Head.{Cut, cutOff, tlv, before, head, unspelled}
@@ -18,7 +18,7 @@ use Rattle.heads.specs.Laws.Head.{length-tlv, head-tlv}
 use Rattle.contents.specs.Content.{ask, passes}
 use Rattle.contents.specs.Integer.{sign, shortest, wellFormed, value, turned}
 use Rattle.contents.specs.Text.{within, starts, follows, textFrom}
-use Rattle.contents.specs.Rules.{integerRule, stringRule}
+use Rattle.contents.specs.Rules.{integerRule, stringRule, also, onlyRule}
 use Rattle.layouts.specs.Layout.{node, Members, _▸_, one, Values, encode, encodes}
 use Rattle.layouts.specs.Sheet.{sheet, sheets}
 use Rattle.layouts.specs.Whole.{sequence, recordOf}
@@ -31,11 +31,11 @@ use Rattle.records.specs.Handing.{readRecord, signedBytes, informationOf
 -- ---- the layouts are clear
 
 pub seal-clear : T (clear (node sequence seal))
-unfolding clear apart tells spare passes ask integerRule stringRule wellFormed shortest sign value turned numberFrom pick within starts follows textFrom enough
+unfolding clear apart tells spare passes ask same also onlyRule integerRule stringRule wellFormed shortest sign value turned numberFrom pick within starts follows textFrom enough
 seal-clear = tt
 
 pub signature-clear : T (clear (node sequence signature))
-unfolding clear apart tells spare passes ask integerRule stringRule wellFormed shortest sign value turned numberFrom pick within starts follows textFrom enough
+unfolding clear apart tells spare passes ask same also onlyRule integerRule stringRule wellFormed shortest sign value turned numberFrom pick within starts follows textFrom enough
 signature-clear = tt
 
 pub record-spelled : largest-record < unspelled
