@@ -10,7 +10,7 @@ use Rattle.contents.specs.Time.{notLater, momentIn, momentOf, written, isReal}
 use Rattle.records.specs.Samples.{recordS, recordD}
 use Rattle.records.specs.Examples.{evaluate, sealS}
 use Rattle.verdicts.specs.Findings.{between, withinDates, revokedBy, inForce, withdrawnBy, sound, atStamp, revocationTimes, certificateTimes, stampTimes, timesOf, allReal}
-use Rattle.verdicts.specs.Verdict.{orElse, firstFailing, the, timeOf, inPeriod, sought, signerListed, stamped, makerOut, judged, weigh, verdict, signatureVerdict, sealVerdict, toldVerdict}
+use Rattle.verdicts.specs.Verdict.{orElse, firstFailing, the, timeOf, inPeriod, sought, signerListed, stamped, makerOut, judged, signatureRules, sealRules, weigh, verdict, toldVerdict}
 use Rattle.verdicts.specs.declared.Revocation.{Revocation}
 use Rattle.verdicts.specs.declared.Revocation.the-variants.{Never, At}
 use Rattle.verdicts.specs.declared.CertificateFacts.{CertificateFacts}
@@ -77,7 +77,7 @@ bad = certificate true false 20230101000000 20251231235959 Never
 
 -- the verdict on S with some findings
 abbrev pub onS : Findings → Told
-onS f = toldVerdict (signatureVerdict recordS f dd [])
+onS f = toldVerdict (verdict signatureRules recordS f dd [])
 
 -- ---- S
 
@@ -104,18 +104,18 @@ rowsS =
     (onS G, plain 0)
     ∷ (onS (findings false true 20240701000000 late c Never Unchecked), plain 21)
     -- kind 1: the signer's digest is not looked at
-    ∷ (toldVerdict (signatureVerdict unlisted G dd (0xAA ∷ [])), plain 22)
+    ∷ (toldVerdict (verdict signatureRules unlisted G dd (0xAA ∷ [])), plain 22)
     ∷ (onS (findings true false 20240701000000 c c Never Unchecked), plain 23)
     ∷ (onS (madeBy unchained), plain 24)
     ∷ (onS (madeBy bad), plain 24)
-    ∷ (toldVerdict (signatureVerdict signedIn2023 (madeBy late) dd []), notice 26)
-    ∷ (toldVerdict (signatureVerdict signedIn2025 (madeBy late) dd []), plain 26)
+    ∷ (toldVerdict (verdict signatureRules signedIn2023 (madeBy late) dd []), notice 26)
+    ∷ (toldVerdict (verdict signatureRules signedIn2025 (madeBy late) dd []), plain 26)
     ∷ (onS (withdrawn 20240630120000), plain 27)
     ∷ (onS (withdrawn 20240630120001), plain 0)
     ∷ (onS (signedBy unchained), plain 28)
     ∷ (onS (findings true true 20240701000000 late bad Never Unchecked), notice 28)
     ∷ (onS (signedBy late), plain 29)
-    ∷ (toldVerdict (signatureVerdict recordS G (0xDE ∷ []) []), plain 31)
+    ∷ (toldVerdict (verdict signatureRules recordS G (0xDE ∷ []) []), plain 31)
     -- first ≤ t ≤ last: signer and maker in force in the one second of the signing
     ∷ (onS (findings true true 20240701000000 (dated 20240630120000 20240630120000) (dated 20240630120000 20240630120000) Never Unchecked), plain 0)
     -- "With no stamp in the record 32 to 34 never arise.": a stamp bad, good before signing, good when the signer is out of force
@@ -154,7 +154,7 @@ unreal-times = agreed (refused18 unreal) tt
 -- ---- D, which has a stamp, and digests in its list
 
 abbrev onD : List ℕ → Findings → List ℕ → List ℕ → Told
-onD w f original signer = toldVerdict (signatureVerdict w f original signer)
+onD w f original signer = toldVerdict (verdict signatureRules w f original signer)
 
 -- its original digest, and the second digest of its list
 abbrev f1f2f3 : List ℕ
@@ -223,12 +223,12 @@ verdicts-on-D = agreed (table ++ stamps) tt
 -- ---- the seal of S by itself
 
 abbrev onSeal : Findings → Told
-onSeal f = toldVerdict (sealVerdict sealS f [] [])
+onSeal f = toldVerdict (verdict sealRules sealS f [] [])
 
 -- "23; 24; 25, maker not in force now; 26 with now; else 0. It tests no withdrawal and gives no notice; it takes the same findings, and 18 covers all their times."
 abbrev rowsSeal : List Row
 rowsSeal =
-    (toldVerdict (sealVerdict (0x30 ∷ 0x80 ∷ []) (judgedAt 0) [] []), refusal 3 0)
+    (toldVerdict (verdict sealRules (0x30 ∷ 0x80 ∷ []) (judgedAt 0) [] []), refusal 3 0)
     -- with all wrong, then one after another set right
     ∷ (onSeal (findings false false 0 bad bad (At 20240101000000) Bad), refusal 18 0)
     ∷ (onSeal (findings false false 20260101000000 bad bad (At 20240101000000) Bad), plain 23)

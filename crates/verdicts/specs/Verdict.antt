@@ -146,12 +146,6 @@ weigh b (good v) f original signer = pick (allReal f) (judged b (factsOf (b .lay
 unfoldable pub verdict : Rulebook → List ℕ → Findings → List ℕ → List ℕ → Verdict
 verdict b w f original signer = weigh b (readRecord (b .layout) w) f original signer
 
-abbrev pub signatureVerdict : List ℕ → Findings → List ℕ → List ℕ → Verdict
-signatureVerdict w f original signer = verdict signatureRules w f original signer
-
-abbrev pub sealVerdict : List ℕ → Findings → List ℕ → List ℕ → Verdict
-sealVerdict w f original signer = verdict sealRules w f original signer
-
 -- ---- a verdict in the paper's terms
 
 abbrev pub toldVerdict : Verdict → Told
