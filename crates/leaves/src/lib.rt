@@ -24,19 +24,19 @@ fn rule(s: &[u8], p: Primitive, at: usize, a: usize, z: usize) -> Checked
     ensures { λ r. ⌜ r ≡ contentAt (leafOf p .front) (ruleOf (leafOf p .holds)) (now (s .entry)) at a z ⌝ }
 {
     match p {
-        Primitive::Octets => bytes::octets(s, at, a, z, NEVER_EMPTY),
-        Primitive::AnyOctets => bytes::octets(s, at, a, z, MAY_BE_EMPTY),
-        Primitive::Bits => bytes::bits(s, at, a, z),
+        Primitive::Octets => octets::octets(s, at, a, z, NEVER_EMPTY),
+        Primitive::AnyOctets => octets::octets(s, at, a, z, MAY_BE_EMPTY),
+        Primitive::Bits => octets::bits(s, at, a, z),
         Primitive::Ia5 => texts::ia5(s, at, a, z, NEVER_EMPTY),
         Primitive::AnyIa5 => texts::ia5(s, at, a, z, MAY_BE_EMPTY),
         Primitive::AnyPrintable => texts::printable(s, at, a, z, MAY_BE_EMPTY),
         Primitive::AnyUtf8 => texts::utf8(s, at, a, z, MAY_BE_EMPTY),
-        Primitive::Identifier => bytes::identifier(s, at, a, z),
+        Primitive::Identifier => octets::identifier(s, at, a, z),
         Primitive::Time => times::time(s, at, a, z),
         Primitive::Integer => integers::integer(s, at, a, z, Allowed::Any),
         Primitive::ListKind => integers::integer(s, at, a, z, Allowed::Kind),
         Primitive::Millimetres => integers::integer(s, at, a, z, Allowed::Millimetres),
-        Primitive::Critical => bytes::boolean(s, at, a, z),
+        Primitive::Critical => octets::boolean(s, at, a, z),
     }
 }
 

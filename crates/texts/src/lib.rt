@@ -138,7 +138,7 @@ fn string(s: &[u8], alphabet: Alphabet, at: usize, a: usize, z: usize, empty: bo
     ensures { λ r. ⌜ r ≡ checkedAt (stringRule (charactersOf alphabet) empty) (now (s .entry)) at a z ⌝ }
 {
     let w = windows::window(s, a, z);
-    bytes::ask_two(
+    octets::ask_two(
         windows::enough(0, w.len(), empty),
         NO_BYTES,
         is_text(w, alphabet),
@@ -177,5 +177,5 @@ pub fn header_name(s: &[u8], at: usize, a: usize, z: usize) -> Checked
         return text;
     };
     let w = windows::window(s, a, z);
-    bytes::ask(windows::is_same(w, b"ES"), NOT_ES, at)
+    octets::ask(windows::is_same(w, b"ES"), NOT_ES, at)
 }

@@ -16,7 +16,7 @@ use Rattle.contents.specs.Leaves.{headerName, knownRule}
 use Rattle.contents.specs.Scan.{checked, checkedAt}
 use Rattle.contents.specs.declared.Checked.{Checked}
 use Rattle.contents.specs.declared.Checked.the-variants.{Fine, Wrong}
-use Rattle.bytes.specs.Laws.{enough-by}
+use Rattle.octets.specs.Laws.{enough-by}
 
 -- a rule that goes before another: its refusal stands, or it is fine
 fault-first : (c d : Check) (p a n q : ℕ) (y : Checked) → y ≡ checked c p a → y ≡ Wrong n q → y ≡ checked (also c d) p a

@@ -1,8 +1,8 @@
--- `bytes::octets`: the rule asks only whether a byte that is needed is there.
-use Rattle.bytes.specs.Laws.{octets-rule}
+-- `octets::octets`: the rule asks only whether a byte that is needed is there.
+use Rattle.octets.specs.Laws.{octets-rule}
 use borrow.Author.Needs.{needs}
-use Rattle.bytes.proofs.octets.Statement.{statement}
-use Rattle.bytes.proofs.octets.Tie as tie
+use Rattle.octets.proofs.octets.Statement.{statement}
+use Rattle.octets.proofs.octets.Tie as tie
 
 window-requires : tie.Need-window-requires
 window-requires c κs = search needs

@@ -1,8 +1,8 @@
--- `bytes::ask_two`: each return is one case of the first test; the second is the callee's.
+-- `octets::ask_two`: each return is one case of the first test; the second is the callee's.
 use Rattle.contents.specs.Content.{ask, placeOf}
 use borrow.Author.Needs.{needs}
-use Rattle.bytes.proofs.ask_two.Statement.{statement}
-use Rattle.bytes.proofs.ask_two.Tie as tie
+use Rattle.octets.proofs.ask_two.Statement.{statement}
+use Rattle.octets.proofs.ask_two.Tie as tie
 
 ask-requires : tie.Need-ask-requires
 ask-requires c κs = search needs

@@ -1,8 +1,8 @@
--- `bytes::is_identifier`: each return is one case of the definition: no byte, more than 64, whole parts or not.
-use Rattle.bytes.specs.Laws.{identifier-none, identifier-long, identifier-parts}
+-- `octets::is_identifier`: each return is one case of the definition: no byte, more than 64, whole parts or not.
+use Rattle.octets.specs.Laws.{identifier-none, identifier-long, identifier-parts}
 use borrow.Author.Needs.{needs}
-use Rattle.bytes.proofs.is_identifier.Statement.{statement}
-use Rattle.bytes.proofs.is_identifier.Tie as tie
+use Rattle.octets.proofs.is_identifier.Statement.{statement}
+use Rattle.octets.proofs.is_identifier.Tie as tie
 
 returns : tie.Need-returns
 returns c = search (needs, identifier-none)

@@ -1,8 +1,8 @@
--- `bytes::identifier`: the rule asks only whether the content is an identifier.
-use Rattle.bytes.specs.Laws.{identifier-rule}
+-- `octets::identifier`: the rule asks only whether the content is an identifier.
+use Rattle.octets.specs.Laws.{identifier-rule}
 use borrow.Author.Needs.{needs}
-use Rattle.bytes.proofs.identifier.Statement.{statement}
-use Rattle.bytes.proofs.identifier.Tie as tie
+use Rattle.octets.proofs.identifier.Statement.{statement}
+use Rattle.octets.proofs.identifier.Tie as tie
 
 window-requires : tie.Need-window-requires
 window-requires c κs = search needs

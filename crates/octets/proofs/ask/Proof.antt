@@ -1,7 +1,7 @@
--- `bytes::ask`: each return is one case of the definition.
+-- `octets::ask`: each return is one case of the definition.
 use Rattle.contents.specs.Content.{ask, placeOf}
-use Rattle.bytes.proofs.ask.Statement.{statement}
-use Rattle.bytes.proofs.ask.Tie as tie
+use Rattle.octets.proofs.ask.Statement.{statement}
+use Rattle.octets.proofs.ask.Tie as tie
 
 returns : tie.Need-returns
 unfolding ask

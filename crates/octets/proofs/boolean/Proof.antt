@@ -1,8 +1,8 @@
--- `bytes::boolean`: the rule asks only whether the content is FF alone.
-use Rattle.bytes.specs.Laws.{boolean-rule}
+-- `octets::boolean`: the rule asks only whether the content is FF alone.
+use Rattle.octets.specs.Laws.{boolean-rule}
 use borrow.Author.Needs.{needs}
-use Rattle.bytes.proofs.boolean.Statement.{statement}
-use Rattle.bytes.proofs.boolean.Tie as tie
+use Rattle.octets.proofs.boolean.Statement.{statement}
+use Rattle.octets.proofs.boolean.Tie as tie
 
 window-requires : tie.Need-window-requires
 window-requires c κs = search needs

@@ -1,8 +1,8 @@
--- `bytes::bits`: the rule has a case for no byte, and else asks the two tests.
-use Rattle.bytes.specs.Laws.{bits-none, bits-rule}
+-- `octets::bits`: the rule has a case for no byte, and else asks the two tests.
+use Rattle.octets.specs.Laws.{bits-none, bits-rule}
 use borrow.Author.Needs.{needs}
-use Rattle.bytes.proofs.bits.Statement.{statement}
-use Rattle.bytes.proofs.bits.Tie as tie
+use Rattle.octets.proofs.bits.Statement.{statement}
+use Rattle.octets.proofs.bits.Tie as tie
 
 window-requires : tie.Need-window-requires
 window-requires c κs = search needs
