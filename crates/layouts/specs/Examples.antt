@@ -7,7 +7,7 @@ use lib.ListN.{length, replicate, set, take, drop}
 use Rattle.terms.specs.declared.Field.the-variants.{Header, ListKind, CertificateList, ListedDigest, SealCustomData, SealCustomItem, SealCustomCritical, Stamp}
 use Rattle.terms.specs.Names.{code}
 use Rattle.terms.specs.Numbers.{done, other-tag, bad-boolean, left-over, bad-bits, no-bytes, too-many-items, too-large, bad-sheet, no-room}
-use Rattle.terms.specs.Answer.{good, pick, bind, need, have, every, enough, same, Told, told-one, refusal, answered, never-empty}
+use Rattle.terms.specs.Answer.{good, pick, bind, need, have, every, enough, same, finish, Told, told-one, refusal, answered, never-empty}
 use Rattle.terms.specs.Digits.{digits, numberFrom, number, leading}
 use Rattle.terms.specs.Laws.Table.{Row, asks, answers, sameNumber, sameNumbers, sameTold, agree, agreed}
 use Rattle.heads.specs.Head.{spell, octets, tlv, unspell, size, opening, cut, head, outermost}
@@ -15,14 +15,14 @@ use Rattle.contents.specs.Content.{ask, placeOf, judge}
 use Rattle.contents.specs.Rules.{octetsRule, booleanRule}
 use Rattle.contents.specs.Leaves.{octetString, bitString}
 use Rattle.layouts.specs.Layout.{Members, end, _▸_, leaf, node, list, one, maybe, flag, choose, each, option, either, encodeLeaf, critical, encode}
-use Rattle.layouts.specs.Reading.{behind, readLeaf, begins, finish, many, readOption, readFlag, readEither, read}
+use Rattle.layouts.specs.Reading.{behind, readLeaf, begins, many, readOption, readFlag, readEither, read}
 use Rattle.layouts.specs.Sheet.{count, section, criticalByte, sheetOption, sheetList, sheet, readCount, readSection, fillLeaf, times, criticalIn, fillFlag, fillOption, fillList, fill}
-use Rattle.layouts.specs.Whole.{sequence, recordOf, recordAt, accept, finishSheet, acceptSheet, fit, fillSheet, writeRecord, stored, toldOutcome}
+use Rattle.layouts.specs.Whole.{sequence, recordOf, recordAt, accept, acceptSheet, fit, fillSheet, writeRecord, stored, toldOutcome}
 use Rattle.layouts.specs.Places.{table-size, slot, under, wanted}
 use Rattle.layouts.specs.declared.Outcome.the-variants.{Length, Refused}
 
 evaluate : Unit {0}
-unfolding pick bind need have every enough same sameNumber sameNumbers sameTold agree digits numberFrom leading spell octets tlv unspell size opening cut head outermost ask placeOf judge octetsRule booleanRule each option either encodeLeaf critical encode behind readLeaf begins finish many readOption readFlag readEither read count section criticalByte sheetOption sheetList sheet readCount readSection fillLeaf times criticalIn fillFlag fillOption fillList fill recordAt accept finishSheet acceptSheet fit fillSheet writeRecord stored
+unfolding pick bind need have every enough same sameNumber sameNumbers sameTold agree digits numberFrom leading spell octets tlv unspell size opening cut head outermost ask placeOf judge octetsRule booleanRule each option either encodeLeaf critical encode behind readLeaf begins finish many readOption readFlag readEither read count section criticalByte sheetOption sheetList sheet readCount readSection fillLeaf times criticalIn fillFlag fillOption fillList fill recordAt accept acceptSheet fit fillSheet writeRecord stored
 evaluate = tt
 
 -- an octet string, by which a second one or a SEQUENCE of one follows, then a flag, then up to two octet strings in a list, optional

@@ -8,7 +8,7 @@ use mathlib.Core.List.{List, [], _∷_}
 use lib.ListN.{length, take, drop}
 use lib.Dec.{eqb}
 use Rattle.terms.specs.Numbers.{left-over, bad-bits, no-item, too-many-items}
-use Rattle.terms.specs.Answer.{Res, good, fault, Got, got, pick, bind, need, enough, same}
+use Rattle.terms.specs.Answer.{Res, good, fault, Got, got, pick, bind, need, enough, same, finish}
 use Rattle.heads.specs.Head.{Cut, cutOff, head}
 use Rattle.contents.specs.Content.{judge}
 use Rattle.contents.specs.Leaves.{Leaf, ruleOf, boolean, only}
@@ -30,11 +30,6 @@ readLeaf l w b = bind (head (l .tag) w b) λ c. bind (behind (l .front) b c) λ 
 unfoldable pub begins : ℕ → List ℕ → Bool
 begins t [] = false
 begins t (x ∷ w) = eqb x t
-
--- "bytes left after the last item; place: the first"
-unfoldable pub finish : List ℕ → ℕ → Res (Unit {0})
-finish [] b = good tt
-finish (x ∷ w) b = fault left-over b
 
 -- items to the end of the window, at most `n`: "a 65th item in a list, of any tag; place: its tag"
 unfoldable pub many : {A : Type 0} → (List ℕ → ℕ → Res (Got A)) → ℕ → List ℕ → ℕ → Res (List A)
@@ -61,10 +56,10 @@ unfoldable mutual
       bind (head t w b) λ c.
       need (enough e (c .content)) no-item b
       (bind (many (λ x p. read i x p) n (c .content) (c .start)) λ vs. good (got vs (c .rest) (next c)))
-  read (wrap t i) w b = bind (head t w b) λ c. bind (read i (c .content) (c .start)) λ a. bind (finish (a .rest) (a .after)) λ u. good (got (a .value) (c .rest) (next c))
+  read (wrap t i) w b = bind (head t w b) λ c. bind (read i (c .content) (c .start)) λ a. bind (finish left-over a) λ v. good (got v (c .rest) (next c))
 
   pub reads : (r : Members) → List ℕ → ℕ → Res (Values r)
-  reads end w b = finish w b
+  reads end w b = finish left-over (got tt w b)
   reads (m ▸ r) w b = bind (readPart m w b) λ a. bind (reads r (a .rest) (a .after)) λ v. good (a .value, v)
 
   pub readPart : (m : Member) → List ℕ → ℕ → Res (Got (Part m))

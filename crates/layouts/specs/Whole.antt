@@ -1,14 +1,14 @@
 -- A whole record and a whole sheet, and what is stored in a destination. Assumes nothing.
 -- `most` is the largest size of a record, header included.
 use Prim.Native.Nat.{ℕ, _≤_}
-use mathlib.Core.List.{List, [], _∷_, _++_}
+use mathlib.Core.List.{List, _++_}
 use lib.ListN.{length, drop}
 use lib.Dec.{leb}
-use Rattle.terms.specs.Numbers.{done, too-large, bad-sheet, no-room}
-use Rattle.terms.specs.Answer.{Res, good, fault, Got, got, bind, need, Told, told-one, refusal}
+use Rattle.terms.specs.Numbers.{done, left-over, too-large, bad-sheet, no-room}
+use Rattle.terms.specs.Answer.{Res, good, fault, Got, got, bind, need, finish, Told, told-one, refusal}
 use Rattle.heads.specs.Head.{tlv, outermost}
 use Rattle.layouts.specs.Layout.{Members, Values, Oks, encodes}
-use Rattle.layouts.specs.Reading.{next, reads, finish}
+use Rattle.layouts.specs.Reading.{next, reads}
 use Rattle.layouts.specs.Sheet.{sheets, fills}
 use Rattle.layouts.specs.declared.Outcome.{Outcome}
 use Rattle.layouts.specs.declared.Outcome.the-variants.{Length, Refused}
@@ -31,17 +31,12 @@ recordAt most r w b = bind (outermost most sequence w b) λ c. bind (reads r (c 
 
 -- a record that is the whole input
 unfoldable pub accept : ℕ → (r : Members) → List ℕ → Res (Values r)
-accept most r w = bind (recordAt most r w 0) λ a. bind (finish (a .rest) (a .after)) λ u. good (a .value)
+accept most r w = bind (recordAt most r w 0) λ a. finish left-over a
 
 -- ---- sheets
 
--- "left over; place: .. first byte left over"
-unfoldable pub finishSheet : List ℕ → ℕ → Res (Unit {0})
-finishSheet [] p = good tt
-finishSheet (x ∷ w) p = fault bad-sheet p
-
 unfoldable pub acceptSheet : (r : Members) → List ℕ → Res (Values r)
-acceptSheet r w = bind (fills r w 0) λ x. bind (finishSheet (x .rest) (x .after)) λ u. good (x .value)
+acceptSheet r w = bind (fills r w 0) λ a. finish bad-sheet a
 
 -- ---- into a destination of `room` bytes
 

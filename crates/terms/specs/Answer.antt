@@ -66,6 +66,10 @@ same [] (y ∷ ys) = false
 same (x ∷ xs) [] = false
 same (x ∷ xs) (y ∷ ys) = eqb x y && same xs ys
 
+-- what was read, if nothing is left after it; else the refusal: "bytes left after the last item; place: the first"
+unfoldable pub finish : {A : Type 0} → ℕ → Got A → Res A
+finish n a = need (same (a .rest) []) n (a .after) (good (a .value))
+
 -- An answer in the paper's terms, its number and its values: what was done, found or judged; or a refusal, its place the first value where it has one.
 -- Each enum that is an answer to a caller has a definition into this type.
 pub data Told : Type 0 where

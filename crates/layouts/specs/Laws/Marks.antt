@@ -8,7 +8,7 @@ use lib.ListN.{length}
 use lib.Seq.{take-length, slice}
 use lib.Dec.{T, ltb}
 use Rattle.terms.specs.declared.Field.{Field}
-use Rattle.terms.specs.Numbers.{too-many-items}
+use Rattle.terms.specs.Numbers.{left-over, too-many-items}
 use Rattle.terms.specs.Answer.{Res, good, Got, pick}
 use Rattle.terms.specs.Laws.Answer.{clash, good-inj, pick-yes, by-bind, by-need}
 use Rattle.heads.specs.Head.{Cut, head, tlv, before}
@@ -112,8 +112,9 @@ module _ (s : List ℕ) where
     marks-read (wrap t i) f k p e pe es x h d =
         by-bind _ _ _ h λ c e₁ e₂. by-bind _ _ _ e₂ λ a e₃ e₄. by-bind _ _ _ e₄ λ z e₅ e₆.
         let b = head-place t p e pe es c e₁ in
-        let q : c .content ≡ encode i (a .value) = backward i (c .content) (c .start) a e₃ .0 ∙ ap (λ (y : List ℕ). encode i (a .value) ++ y) (finish-back (a .rest) (a .after) z e₅) ∙ append-nil (encode i (a .value)) in
-        rw (← good-inj e₆, e₁, ← q, ← b .3) (marks-read i f k (c .start) (next c) (b .1) (b .2) a (rw (b .0) at e₃) d)
+        let u = finish-back left-over a z e₅ in
+        let q : c .content ≡ encode i (a .value) = backward i (c .content) (c .start) a e₃ .0 ∙ ap (λ (y : List ℕ). encode i (a .value) ++ y) (u .0) ∙ append-nil (encode i (a .value)) in
+        rw (← good-inj e₆, e₁, ← u .1, ← q, ← b .3) (marks-read i f k (c .start) (next c) (b .1) (b .2) a (rw (b .0) at e₃) d)
 
     -- so does a run of members
     pub marksAll-read : (r : Members) (k p e : ℕ) → p ≤ e → e ≤ length s → (v : Values r) → reads r (slice p e s) p ≡ good v → (d : List ℕ) → marksAll r k s p e d ≡ notes (runFields r k v p) d
@@ -154,12 +155,12 @@ pub accept-marks : (most : ℕ) (r : Members) (s : List ℕ) (v : Values r) → 
     → marksAll r 0 s a z d ≡ notes (fields r v) d
 unfolding accept recordAt outermostAt fields
 accept-marks most r s v h a z o d =
-    by-bind _ _ _ h λ x e₁ e₂. by-bind _ _ _ e₁ λ c e₃ e₄. by-bind _ _ _ e₄ λ y e₅ e₆. by-bind _ _ _ e₂ λ u e₇ e₈.
+    by-bind _ _ _ h λ x e₁ e₂. by-bind _ _ _ e₁ λ c e₃ e₄. by-bind _ _ _ e₄ λ y e₅ e₆.
     let w : slice 0 (length s) s ≡ s = take-length s in
     let q : At (c .start) (next c) ≡ At a z = rw (w, e₃) at o in
     let i : c .start ≡ a = cc in
     let j : next c ≡ z = cc in
     let b = head-place s sequence 0 (length s) (omega arith) (omega arith) c (rw w (outermost-back most sequence s 0 c e₃ .0)) in
     let l : before (length (c .content)) ≡ c .start = omega arith in
-    let g : y ≡ v = ap (λ k. k .value) (good-inj e₆) ∙ good-inj e₈ in
+    let g : y ≡ v = ap (λ k. k .value) (good-inj e₆) ∙ finish-back left-over x v e₂ .1 in
     rw (← g, ← i, ← j, ← backwards r (c .content) (c .start) y e₅ .0, l) (marksAll-read s r 0 (c .start) (next c) (b .1) (b .2) y (rw (b .0) at e₅) d)

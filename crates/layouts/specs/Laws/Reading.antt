@@ -10,7 +10,8 @@ use lib.ListN.{length, take, drop, length-append, take-append-drop}
 use lib.Seq.{take-append-seam, drop-append-seam}
 use lib.Dec.{T, leb, ltb, eqb}
 use borrow.Author.Tests.{eq-eqb}
-use Rattle.terms.specs.Answer.{Res, good, Got, got, pick, bind, need, enough, same}
+use Rattle.terms.specs.Numbers.{left-over}
+use Rattle.terms.specs.Answer.{Res, good, Got, got, pick, bind, need, enough, same, finish}
 use Rattle.terms.specs.Laws.Answer.{clash, good-inj, test, and-l, and-r, is-true, is-false, pick-yes, pick-no, by-bind, by-need, same-eq, same-refl}
 use Rattle.heads.specs.Head.{Cut, cutOff, tlv, octets, before, unspelled}
 use Rattle.heads.specs.Laws.Head.{head-tlv, head-back, length-tlv}
@@ -20,7 +21,7 @@ use Rattle.contents.specs.Rules.{yes-byte, booleanRule, also, onlyRule}
 use Rattle.contents.specs.Laws.Leaves.{by-judge, by-ask, passed}
 use Rattle.layouts.specs.Layout.{Item, leaf, node, list, wrap, Members, end, _▸_, Member, known, one, maybe, flag, choose, tagOf, Value, Values, Part, All, InOption, InEither, Ok, Oks, OkPart, each, option, either, encodeLeaf, critical, encode, encodes, encodePart}
 use Rattle.layouts.specs.Fields.{startOf}
-use Rattle.layouts.specs.Reading.{next, behind, readLeaf, begins, finish, many, readOption, readFlag, readEither, read, reads, readPart}
+use Rattle.layouts.specs.Reading.{next, behind, readLeaf, begins, many, readOption, readFlag, readEither, read, reads, readPart}
 
 -- ---- layouts in which what may be missing cannot be mistaken, what is known is allowed, and no list is too long to count
 
@@ -301,7 +302,7 @@ enough-each t e st false (x ∷ xs) h = rw (st x .1) tt
 -- ---- what is written is read back
 
 mutual
-  unfolding read encode clear bind need finish
+  unfolding read encode clear bind need finish same
 
   pub forward : (i : Item) → T (clear i) → Forward (λ w b. read i w b) (λ v. encode i v) (λ v. Ok i v)
   forward (leaf l) k v ok w b h = rw (leaf-forward l v w b ok h) (ap (λ (m : ℕ). good (got v w m)) (leaf-ends l v b))
@@ -364,10 +365,9 @@ enough-back e true xs h = tt
 enough-back e false [] h = h
 enough-back e false (x ∷ xs) h = tt
 
-pub finish-back : (w : List ℕ) (b : ℕ) (v : Unit {0}) → finish w b ≡ good v → w ≡ []
+pub finish-back : {A : Type 0} (n : ℕ) (a : Got A) (v : A) → finish n a ≡ good v → (a .rest ≡ []) × (a .value ≡ v)
 unfolding finish
-finish-back [] b v q = refl
-finish-back (x ∷ w) b v q = clash q
+finish-back n a v q = by-need _ _ _ _ _ q λ h e. (same-eq (a .rest) [] h, good-inj e)
 
 mutual
   unfolding read encode
@@ -392,13 +392,13 @@ mutual
       by-bind _ _ _ q λ c e₁ e₂. by-bind _ _ _ e₂ λ a e₃ e₄. by-bind _ _ _ e₄ λ z e₅ e₆.
       let u = head-back t w b c e₁ in
       let s = backward i (c .content) (c .start) a e₃ in
-      let f = finish-back (a .rest) (a .after) z e₅ in
-      let y : c .content ≡ encode i (a .value) = s .0 ∙ ap (λ (z : List ℕ). encode i (a .value) ++ z) f ∙ append-nil (encode i (a .value)) in
+      let f = finish-back left-over a z e₅ in
+      let y : c .content ≡ encode i (a .value) = s .0 ∙ ap (λ (z : List ℕ). encode i (a .value) ++ z) (f .0) ∙ append-nil (encode i (a .value)) in
       let n = length-tlv t (c .content) in
-      rw (← good-inj e₆, ← y) (u .0, s .1, omega arith)
+      rw (← good-inj e₆, ← f .1, ← y) (u .0, s .1, omega arith)
 
   pub backwards : (r : Members) (w : List ℕ) (b : ℕ) (v : Values r) → reads r w b ≡ good v → (w ≡ encodes r v) × Oks r v
-  backwards end w b v q = (finish-back w b v q, tt)
+  backwards end w b v q = (finish-back left-over (got tt w b) v q .0, tt)
   backwards (m ▸ r) w b v q =
       by-bind _ _ _ q λ a e₁ e₂. by-bind _ _ _ e₂ λ x e₃ e₄.
       let u = backwardPart m w b a e₁ in

@@ -11,7 +11,7 @@ use lib.Seq.{take-length, slice, slice-empty, slice-cons, length-slice, drop-dro
 use lib.Dec.{ltb, eqb, ltb→lt, nltb→le}
 use borrow.Author.Tests.{lt-ltb, le-ltb}
 use Rattle.terms.specs.Numbers.{left-over, bad-bits, no-item, too-many-items}
-use Rattle.terms.specs.Answer.{Res, good, fault, Got, got, pick, bind, need, enough, same}
+use Rattle.terms.specs.Answer.{Res, good, fault, Got, got, pick, bind, need, enough, same, finish}
 use Rattle.terms.specs.Laws.Answer.{good-inj, test, is-true, is-false, by-bind, need-eq}
 use Rattle.heads.specs.Head.{Cut, cutOff, head, outermost, tlv, octets}
 use Rattle.heads.specs.Scan.{seen, headAt, outermostAt}
@@ -25,7 +25,7 @@ use Rattle.contents.specs.Scan.{checked, checkedAt, behindAt, contentAt}
 use Rattle.contents.specs.Laws.Leaves.{by-judge}
 use Rattle.layouts.specs.Layout.{Item, leaf, node, list, wrap, Members, end, _▸_, Member, known, one, maybe, flag, choose, tagOf, Value, Values, Part, encode, encodePart}
 use Rattle.layouts.specs.Whole.{sequence, recordAt, accept}
-use Rattle.layouts.specs.Reading.{next, behind, readLeaf, begins, finish, many, readOption, readFlag, readEither, read, reads, readPart}
+use Rattle.layouts.specs.Reading.{next, behind, readLeaf, begins, many, readOption, readFlag, readEither, read, reads, readPart}
 use Rattle.layouts.specs.Scan.{thenSeen, thenStep, judgedAt, thenJudge, leafAt, beginsAt, closeAt, scanMany, scan, scans, scanPart, recordScan, wholeScan}
 use Rattle.layouts.specs.Laws.Reading.{behind-back, backward, backwardPart}
 
@@ -180,9 +180,9 @@ module _ (s : List ℕ) where
   unfolding beginsAt begins
   begins-agree t p e pe es = by-window p e (λ u w. u && eqb (getD s p 0) t ≡ begins t w) pe es refl refl
 
-  close-agree : (p e : ℕ) → p ≤ e → e ≤ length s → closeAt p e ≡ whole e (finish (slice p e s) p)
-  unfolding closeAt finish pick
-  close-agree p e pe es = by-window p e (λ u w. pick u (Refused left-over p) (Next e) ≡ whole e (finish w p)) pe es refl refl
+  close-agree : {A : Type 0} (a : Got A) (e : ℕ) → a .rest ≡ slice (a .after) e s → a .after ≤ e → e ≤ length s → closeAt (a .after) e ≡ whole e (finish left-over a)
+  unfolding closeAt finish same need pick
+  close-agree a e q ae es = rw q (by-window (a .after) e (λ u w. pick u (Refused left-over (a .after)) (Next e) ≡ whole e (finish left-over (got (a .value) w (a .after)))) ae es refl refl)
 
   pub enough-agree : (k : Bool) (p e : ℕ) → p ≤ e → e ≤ length s → k || ltb p e ≡ enough k (slice p e s)
   unfolding enough
@@ -239,10 +239,10 @@ module _ (s : List ℕ) where
         rw (scan-read i (c .start) (next c) d d′)
         (rw (← b .0) (out-bind (λ x. x .after) (λ x. x .after) _ _ _ λ a g.
         let o = item-on i (c .start) (next c) d d′ a (rw (← b .0) g) in
-        rw (close-agree (a .after) (next c) (o .2) d′, ← o .0) (out-map (λ x. next c) (λ x. x .after) _ _ λ v. refl)))
+        rw (close-agree a (next c) (o .0) (o .2) d′) (out-map (λ x. next c) (λ x. x .after) _ _ λ v. refl)))
 
     pub scans-read : (r : Members) (p e : ℕ) → p ≤ e → e ≤ length s → scans r s p e ≡ whole e (reads r (slice p e s) p)
-    scans-read end p e pe es = close-agree p e pe es
+    scans-read end p e pe es = close-agree (got tt (slice p e s) p) e refl pe es
     scans-read (m ▸ r) p e pe es =
         rw (part-read m p e pe es)
         (out-bind (λ x. x .after) (λ x. e) _ _ _ λ a h.
@@ -297,4 +297,4 @@ whole-accept most r s =
     rw (record-read s most r 0 (length s) (omega arith) (omega arith), w)
     (out-bind (λ x. x .after) (λ x. length s) _ _ _ λ a g.
     let o = record-on s most r 0 (length s) (omega arith) (omega arith) a (rw w g) in
-    rw (close-agree s (a .after) (length s) (o .1) (omega arith), ← o .0) (out-map (λ x. length s) (λ x. length s) _ _ λ u. refl))
+    close-agree s a (length s) (o .0) (o .1) (omega arith))

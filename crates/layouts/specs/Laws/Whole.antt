@@ -7,24 +7,24 @@ use lib.ListN.{length, take, drop, length-append}
 use lib.Seq.{drop-at, take-at}
 use lib.Dec.{T, leb, le→leb}
 use borrow.Author.Tests.{lt-leb}
-use Rattle.terms.specs.Numbers.{done, no-room}
-use Rattle.terms.specs.Answer.{Res, good, fault, Got, got, bind, need, Told, told-one, refusal, answered}
-use Rattle.terms.specs.Laws.Answer.{clash, good-inj, and-r, by-bind, need-eq}
+use Rattle.terms.specs.Numbers.{done, left-over, bad-sheet, no-room}
+use Rattle.terms.specs.Answer.{Res, good, fault, Got, got, bind, need, same, finish, Told, told-one, refusal, answered}
+use Rattle.terms.specs.Laws.Answer.{good-inj, and-r, by-bind, need-eq}
 use Rattle.heads.specs.Head.{Cut, tlv, before, unspelled, outermost}
 use Rattle.heads.specs.Laws.Head.{length-tlv, head-back, outermost-tlv, outermost-back}
 use Rattle.heads.specs.Laws.More.{moreCut, outermost-more}
 use Rattle.layouts.specs.Layout.{Members, node, Values, Oks, encode, encodes}
-use Rattle.layouts.specs.Reading.{next, reads, finish}
+use Rattle.layouts.specs.Reading.{next, reads}
 use Rattle.layouts.specs.Sheet.{sheet, sheets}
-use Rattle.layouts.specs.Whole.{sequence, recordOf, recordAt, accept, finishSheet, acceptSheet, fit, stored}
+use Rattle.layouts.specs.Whole.{sequence, recordOf, recordAt, accept, acceptSheet, fit, stored}
 use Rattle.layouts.specs.Laws.Reading.{clear, clears, spare, forwards, backwards, finish-back}
 use Rattle.layouts.specs.Laws.Sheet.{uncounted, filleds, unfilleds, short}
 
 -- where a byte is left, more are left
-some-left : (w z : List ℕ) (p : ℕ) → 1 ≤ length w → finish (w ++ z) p ≡ finish w p
-unfolding finish
-some-left [] z p h = absurd (omega arith)
-some-left (x ∷ w) z p h = refl
+some-left : {A : Type 0} (n : ℕ) (v : A) (w z : List ℕ) (p : ℕ) → 1 ≤ length w → finish n (got v (w ++ z) p) ≡ finish n (got v w p)
+unfolding finish same
+some-left n v [] z p h = absurd (omega arith)
+some-left n v (x ∷ w) z p h = refl
 
 module _ (most : ℕ) (r : Members) where
   -- ---- a record at the front of a window
@@ -54,15 +54,15 @@ module _ (most : ℕ) (r : Members) where
   pub accept-back : (w : List ℕ) (v : Values r) → accept most r w ≡ good v → (w ≡ recordOf r v) × Oks r v × (length w ≤ most)
   unfolding accept
   accept-back w v e =
-      by-bind _ _ _ e λ a e₁ e₂. by-bind _ _ _ e₂ λ u e₃ e₄.
+      by-bind _ _ _ e λ a e₁ e₂.
       let b = recordAt-back w 0 a e₁ in
-      let f = finish-back (a .rest) (a .after) u e₃ in
-      let q : w ≡ recordOf r (a .value) = b .0 ∙ ap (λ (z : List ℕ). recordOf r (a .value) ++ z) f ∙ append-nil (recordOf r (a .value)) in
-      rw (← good-inj e₄) (q, b .1, rw q (b .3))
+      let f = finish-back left-over a v e₂ in
+      let q : w ≡ recordOf r (a .value) = b .0 ∙ ap (λ (z : List ℕ). recordOf r (a .value) ++ z) (f .0) ∙ append-nil (recordOf r (a .value)) in
+      rw (← f .1) (q, b .1, rw q (b .3))
 
   -- the bytes of every such value within the bound are accepted
   pub accept-there : T (clears r) → most < unspelled → (v : Values r) → Oks r v → length (recordOf r v) ≤ most → accept most r (recordOf r v) ≡ good v
-  unfolding accept bind finish
+  unfolding accept bind finish same need
   accept-there k m v ok h = rw (← append-nil (recordOf r v), recordAt-there k m v ok h [] 0)
 
   -- bytes after the first that no record has room for change nothing
@@ -70,41 +70,36 @@ module _ (most : ℕ) (r : Members) where
   unfolding accept recordAt bind
   accept-more w z m h = rw (outermost-more most sequence w z 0 m h) (go (outermost most sequence w 0) refl)
     where
-      left : (c : Cut) → outermost most sequence w 0 ≡ good c → (p : ℕ) → finish (c .rest ++ z) p ≡ finish (c .rest) p
-      left c e p =
+      left : (c : Cut) → outermost most sequence w 0 ≡ good c → (v : Values r) → finish left-over (got v (c .rest ++ z) (next c)) ≡ finish left-over (got v (c .rest) (next c))
+      left c e v =
           let o = outermost-back most sequence w 0 c e in
           let l : length w ≡ length (tlv sequence (c .content)) + length (c .rest) = ap length (head-back sequence w 0 c (o .0) .0) ∙ length-append (tlv sequence (c .content)) (c .rest) in
           let n = o .1 in
-          some-left (c .rest) z p (omega arith)
+          some-left left-over v (c .rest) z (next c) (omega arith)
 
       go : (x : Res Cut) → outermost most sequence w 0 ≡ x
-          → (bind {A = Got (Values r)} (bind (moreCut z x) λ c. bind (reads r (c .content) (c .start)) λ v. good (got v (c .rest) (next c))) λ a. bind (finish (a .rest) (a .after)) λ u. good (a .value))
-          ≡ (bind {A = Got (Values r)} (bind x λ c. bind (reads r (c .content) (c .start)) λ v. good (got v (c .rest) (next c))) λ a. bind (finish (a .rest) (a .after)) λ u. good (a .value))
+          → (bind {A = Got (Values r)} (bind (moreCut z x) λ c. bind (reads r (c .content) (c .start)) λ v. good (got v (c .rest) (next c))) λ a. finish left-over a)
+          ≡ (bind {A = Got (Values r)} (bind x λ c. bind (reads r (c .content) (c .start)) λ v. good (got v (c .rest) (next c))) λ a. finish left-over a)
       go (good c) e = read (reads r (c .content) (c .start))
         where
-          read : (y : Res (Values r)) → (bind {A = Got (Values r)} (bind y λ v. good (got v (c .rest ++ z) (next c))) λ a. bind (finish (a .rest) (a .after)) λ u. good (a .value))
-              ≡ (bind {A = Got (Values r)} (bind y λ v. good (got v (c .rest) (next c))) λ a. bind (finish (a .rest) (a .after)) λ u. good (a .value))
-          read (good v) = rw (left c e (next c)) refl
+          read : (y : Res (Values r)) → (bind {A = Got (Values r)} (bind y λ v. good (got v (c .rest ++ z) (next c))) λ a. finish left-over a)
+              ≡ (bind {A = Got (Values r)} (bind y λ v. good (got v (c .rest) (next c))) λ a. finish left-over a)
+          read (good v) = left c e v
           read (fault n p) = refl
       go (fault n p) e = refl
 
   -- ---- a sheet
 
-  finishSheet-back : (w : List ℕ) (p : ℕ) (u : Unit {0}) → finishSheet w p ≡ good u → w ≡ []
-  unfolding finishSheet
-  finishSheet-back [] p u e = refl
-  finishSheet-back (x ∷ w) p u e = clash e
-
   pub sheet-back : (x : List ℕ) (v : Values r) → acceptSheet r x ≡ good v → (x ≡ sheets r v) × Oks r v
   unfolding acceptSheet
   sheet-back x v e =
-      by-bind _ _ _ e λ a e₁ e₂. by-bind _ _ _ e₂ λ u e₃ e₄.
+      by-bind _ _ _ e λ a e₁ e₂.
       let b = unfilleds r x 0 a e₁ in
-      let f = finishSheet-back (a .rest) (a .after) u e₃ in
-      rw (← good-inj e₄) (b .0 ∙ ap (λ (z : List ℕ). sheets r (a .value) ++ z) f ∙ append-nil (sheets r (a .value)), b .1)
+      let f = finish-back bad-sheet a v e₂ in
+      rw (← f .1) (b .0 ∙ ap (λ (z : List ℕ). sheets r (a .value) ++ z) (f .0) ∙ append-nil (sheets r (a .value)), b .1)
 
   pub sheet-there : T (clears r) → (v : Values r) → Oks r v → length (sheets r v) < uncounted → acceptSheet r (sheets r v) ≡ good v
-  unfolding acceptSheet bind finishSheet
+  unfolding acceptSheet bind finish same need
   sheet-there k v ok h = rw (← append-nil (sheets r v), filleds r k v ok [] 0 h)
 
   -- the sheet of a record within the bound can be counted
