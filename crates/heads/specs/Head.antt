@@ -25,10 +25,6 @@ two-bytes = record { octet = 0x82; bytes = 2; from = 256 }
 abbrev pub forms : List Form
 forms = one-byte ∷ two-bytes ∷ []
 
--- a length that no form has room for
-abbrev pub unspelled : ℕ
-unspelled = 65536
-
 -- ---- writing
 
 -- by the first form that has room

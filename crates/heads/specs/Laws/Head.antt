@@ -12,7 +12,7 @@ use Rattle.terms.specs.Answer.{good, bind, need, have}
 use Rattle.terms.specs.Digits.{digits}
 use Rattle.terms.specs.Laws.Answer.{clash, good-inj, test, and-l, and-r, pick-yes, pick-no, by-bind, by-need, by-have, bind-eq, need-eq}
 use Rattle.terms.specs.Laws.Digits.{leading-there, leading-back}
-use Rattle.heads.specs.Head.{Form, forms, unspelled, spell, octets, tlv, Size, unspell, size, opening, Cut, cutOff, before, cut, head, outermost}
+use Rattle.heads.specs.Head.{Form, forms, spell, octets, tlv, Size, unspell, size, opening, Cut, cutOff, before, cut, head, outermost}
 
 -- ---- the table of forms
 
@@ -25,6 +25,9 @@ clearForms o l (f ∷ fs) = ltb o (f .octet) && (eqb (f .from) l && (leb l (256 
 limit : ℕ → List Form → ℕ
 limit l [] = l
 limit l (f ∷ fs) = limit (256 ^ f .bytes) fs
+
+abbrev pub unspelled : ℕ
+unspelled = 65536
 
 forms-clear : T (clearForms 127 128 forms)
 unfolding clearForms

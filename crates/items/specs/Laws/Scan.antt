@@ -17,8 +17,8 @@ use Rattle.terms.specs.Digits.{digits, numberFrom, number, isByte, leading}
 use Rattle.terms.specs.Laws.Digits.{leading-there, digits-number, number-small}
 use Rattle.terms.specs.Laws.Answer.{test, pick-yes, pick-no, pick-lt, pick-ge, bind-eq}
 use Rattle.heads.specs.Head as Head
-use Rattle.heads.specs.Head.{one-byte, two-bytes, forms, unspelled, spell, octets, Size, unspell, size, opening, Cut, before, cut, head, outermost}
-use Rattle.heads.specs.Laws.Head.{size-back, octets-below, opening-rest}
+use Rattle.heads.specs.Head.{one-byte, two-bytes, forms, spell, octets, Size, unspell, size, opening, Cut, before, cut, head, outermost}
+use Rattle.heads.specs.Laws.Head.{unspelled, size-back, octets-below, opening-rest}
 use Rattle.heads.specs.Scan.{seen, headAt, outermostAt}
 use Rattle.windows.specs.Window.{clamp}
 use Rattle.windows.specs.Laws.Window.{slice-clamp, clamp-in, byte-at, nothing-at}

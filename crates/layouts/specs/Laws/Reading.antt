@@ -13,8 +13,8 @@ use borrow.Author.Tests.{eq-eqb}
 use Rattle.terms.specs.Numbers.{left-over}
 use Rattle.terms.specs.Answer.{Res, good, Got, got, pick, bind, need, enough, same, finish}
 use Rattle.terms.specs.Laws.Answer.{clash, good-inj, test, and-l, and-r, is-true, is-false, pick-yes, pick-no, by-bind, by-need, same-eq, same-refl}
-use Rattle.heads.specs.Head.{Cut, cutOff, tlv, octets, before, unspelled}
-use Rattle.heads.specs.Laws.Head.{head-tlv, head-back, length-tlv}
+use Rattle.heads.specs.Head.{Cut, cutOff, tlv, octets, before}
+use Rattle.heads.specs.Laws.Head.{unspelled, head-tlv, head-back, length-tlv}
 use Rattle.contents.specs.Content.{Check, fine, wrong, ask, judge, passes}
 use Rattle.contents.specs.Leaves.{Leaf, ruleOf, boolean, knownRule, only}
 use Rattle.contents.specs.Rules.{yes-byte, booleanRule, also, onlyRule}

@@ -13,8 +13,8 @@ use borrow.Author.Tests.{le-leb}
 use Rattle.terms.specs.Answer.{Res, good, Got, got, pick, bind, need, have, enough, same}
 use Rattle.terms.specs.Laws.Answer.{good-inj, test, and-l, and-r, pick-yes, pick-no, by-bind, by-need, by-have, same-eq}
 use Rattle.terms.specs.Laws.Digits.{leading-there, leading-back, length-digits}
-use Rattle.heads.specs.Head.{Cut, cutOff, tlv, unspelled}
-use Rattle.heads.specs.Laws.Head.{length-tlv, octets-some}
+use Rattle.heads.specs.Head.{Cut, cutOff, tlv}
+use Rattle.heads.specs.Laws.Head.{unspelled, length-tlv, octets-some}
 use Rattle.contents.specs.Content.{fine, judge}
 use Rattle.contents.specs.Leaves.{Leaf, ruleOf, sectionOf}
 use Rattle.contents.specs.Laws.Leaves.{by-judge, value-there, value-back, section-near}

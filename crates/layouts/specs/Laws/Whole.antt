@@ -10,8 +10,8 @@ use borrow.Author.Tests.{lt-leb}
 use Rattle.terms.specs.Numbers.{done, left-over, bad-sheet, no-room}
 use Rattle.terms.specs.Answer.{Res, good, fault, Got, got, bind, need, same, finish, Told, told-one, refusal, answered}
 use Rattle.terms.specs.Laws.Answer.{good-inj, and-r, by-bind, need-eq}
-use Rattle.heads.specs.Head.{Cut, tlv, before, unspelled, outermost}
-use Rattle.heads.specs.Laws.Head.{length-tlv, head-back, outermost-tlv, outermost-back}
+use Rattle.heads.specs.Head.{Cut, tlv, before, outermost}
+use Rattle.heads.specs.Laws.Head.{unspelled, length-tlv, head-back, outermost-tlv, outermost-back}
 use Rattle.heads.specs.Laws.More.{moreCut, outermost-more}
 use Rattle.layouts.specs.Layout.{Members, node, Values, Oks, encode, encodes}
 use Rattle.layouts.specs.Reading.{next, reads}

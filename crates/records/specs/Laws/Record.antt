@@ -13,8 +13,8 @@ use Rattle.terms.specs.Numbers.{largest-record}
 use Rattle.terms.specs.Answer.{Res, good, pick, enough, same}
 use Rattle.terms.specs.Laws.Answer.{good-inj, and-l, and-r}
 use Rattle.terms.specs.Digits.{numberFrom}
-use Rattle.heads.specs.Head.{Cut, cutOff, tlv, before, head, unspelled}
-use Rattle.heads.specs.Laws.Head.{length-tlv, head-tlv}
+use Rattle.heads.specs.Head.{Cut, cutOff, tlv, before, head}
+use Rattle.heads.specs.Laws.Head.{unspelled, length-tlv, head-tlv}
 use Rattle.contents.specs.Content.{ask, passes}
 use Rattle.contents.specs.Integer.{sign, shortest, wellFormed, value, turned}
 use Rattle.contents.specs.Text.{within, starts, follows, textFrom}

@@ -216,9 +216,9 @@ module _ (r : Members) where
   afterSteps (suc k) s x = afterSteps k s (stepAfter r s x)
 
   -- each record of a list, where it stands from `b` on
-  unfoldable pub handedOut : List (Values r) → ℕ → List Told
-  handedOut [] b = []
-  handedOut (v ∷ vs) b = told-two done b (length (recordOf r v)) ∷ handedOut vs (b + length (recordOf r v))
+  unfoldable pub handedRecords : List (Values r) → ℕ → List Told
+  handedRecords [] b = []
+  handedRecords (v ∷ vs) b = told-two done b (length (recordOf r v)) ∷ handedRecords vs (b + length (recordOf r v))
 
   abbrev at : ℕ → ℕ → Reader
   at p n = record { position = p; handed = n }
@@ -226,8 +226,8 @@ module _ (r : Members) where
   -- over records, one after another
   walk-records : T (clears r) → (s : List ℕ) (vs : List (Values r)) → All (Accepted r) vs → (k m b n b′ n′ : ℕ) (before rest : List ℕ)
       → m ≡ length vs + k → s ≡ before ++ (runOf r vs ++ rest) → b ≡ length before → n + length vs ≤ top → b′ ≡ b + length (runOf r vs) → n′ ≡ n + length vs
-      → (steps m s (at b n) ≡ handedOut vs b ++ steps k s (at b′ n′)) × (afterSteps m s (at b n) ≡ afterSteps k s (at b′ n′))
-  unfolding steps afterSteps handedOut each oneMore
+      → (steps m s (at b n) ≡ handedRecords vs b ++ steps k s (at b′ n′)) × (afterSteps m s (at b n) ≡ afterSteps k s (at b′ n′))
+  unfolding steps afterSteps handedRecords each oneMore
   walk-records c s [] ok k m b n b′ n′ before rest em es eb et ep en =
       let f : m ≡ k = omega arith in let g : b′ ≡ b = omega arith in let h : n′ ≡ n = omega arith in (rw (f, g, h) refl, rw (f, g, h) refl)
   walk-records c s (v ∷ vs) ok k zero b n b′ n′ before rest em es eb et ep en = let z : ⊥ = omega arith in absurd z
@@ -253,7 +253,7 @@ module _ (r : Members) where
   -- the records of a list in order, each with its place, and then one answer for ever
   abbrev pub Walked : List ℕ → List (Values r) → Told → Type 0
   Walked s vs t =
-      (k : ℕ) → (steps (length vs + k) s made ≡ handedOut vs 0 ++ replicate k t) × (afterSteps (length vs + k) s made ≡ record { position = length (runOf r vs); handed = length vs })
+      (k : ℕ) → (steps (length vs + k) s made ≡ handedRecords vs 0 ++ replicate k t) × (afterSteps (length vs + k) s made ≡ record { position = length (runOf r vs); handed = length vs })
 
   walk : T (clears r) → (s : List ℕ) (vs : List (Values r)) (rest : List ℕ) → All (Accepted r) vs → s ≡ runOf r vs ++ rest → length s ≤ top → (t : Told)
       → (stepAnswer r s (at (length (runOf r vs)) (length vs)) ≡ t) × (stepAfter r s (at (length (runOf r vs)) (length vs)) ≡ at (length (runOf r vs)) (length vs)) → Walked s vs t
@@ -261,7 +261,7 @@ module _ (r : Members) where
       let l : length s ≡ length (runOf r vs) + length rest = ap length e ∙ length-append (runOf r vs) rest in
       let w = walk-records c s vs ok k (length vs + k) 0 0 (length (runOf r vs)) (length vs) [] rest refl e refl (omega (arith, run-some vs)) (omega arith) (omega arith) in
       let y = walk-stays s (at (length (runOf r vs)) (length vs)) b k in
-      (w .0 ∙ ap (λ (z : List Told). handedOut vs 0 ++ z) (rw a at (y .0)), w .1 ∙ y .1)
+      (w .0 ∙ ap (λ (z : List Told). handedRecords vs 0 ++ z) (rw a at (y .0)), w .1 ∙ y .1)
 
   pub run-walked : T (clears r) → (vs : List (Values r)) → All (Accepted r) vs → length (runOf r vs) ≤ top → Walked (runOf r vs) vs (told-none run-end)
   run-walked c vs ok h =
