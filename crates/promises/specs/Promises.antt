@@ -128,7 +128,7 @@ module _ (r : Members) (k : Clear r) where
       → (fieldAnswer r f i w ≡ refusal n p) × (matchAnswer r given w ≡ refusal n p) × (valueAnswer r f w ≡ refusal n p) × (criticalAnswer r f i w ≡ refusal n p) × (countAnswer r f w ≡ refusal n p)
   refused-is-told w n p e f i given = Handing.refused-told r w n p e f i given
 
-  -- so do those that a reader's table of places tells: its second and third number are the field's start and length
+  -- what a reader's table of places tells stands there too: its second and third number are the field's start and length
   pub placed-stands-there : (w : List ℕ) (v : Values r) → readRecord r w ≡ good v → (i : ℕ) (d : List ℕ) → Placed i (fieldsIn r w) d → (f : Field) (x : Entry) → first (isField f i) (fields r v) ≡ some x
       → take (getD (under f d) 2 0) (drop (getD (under f d) 1 0) w) ≡ x .bytes
   placed-stands-there w v e i d h f x q =

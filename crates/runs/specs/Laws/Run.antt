@@ -9,7 +9,7 @@ use lib.Seq.{drop-at, drop-cons}
 use lib.Dec.{T, ltb, lt→ltb}
 use Rattle.terms.specs.Numbers.{largest-record, done, run-end}
 use Rattle.terms.specs.Answer.{Res, good, fault, Got, got, bind, Told, told-two, told-none}
-use Rattle.terms.specs.Laws.Answer.{pick-yes, by-bind}
+use Rattle.terms.specs.Laws.Answer.{never, pick-yes, by-bind}
 use Rattle.heads.specs.Head.{tlv, octets}
 use Rattle.heads.specs.Laws.Head.{length-tlv}
 use Rattle.layouts.specs.Layout.{Members, Values, All, each, encodes}
@@ -65,12 +65,12 @@ module _ (r : Members) where
   whole-cons : (a : Values r) (x : Ran (Values r)) (vs : List (Values r)) → andThen a x ≡ whole vs → (us : List (Values r)) × (x ≡ whole us) × (a ∷ us ≡ vs)
   unfolding andThen
   whole-cons a (whole us) vs e = (us, refl, let q : a ∷ us ≡ vs = cc in q)
-  whole-cons a (stopped us n p) vs e = let z : _≡_ {A = ℕ} 0 1 = cc in let y : ⊥ = omega arith in absurd y
+  whole-cons a (stopped us n p) vs e = never (cc)
 
   by-onward {ℓ} : {X : Type ℓ} (x : Res (Got (Values r))) (k : Got (Values r) → Ran (Values r)) (vs : List (Values r)) → onward x k ≡ whole vs → ((a : Got (Values r)) → x ≡ good a → k a ≡ whole vs → X) → X
   unfolding onward
   by-onward (good a) k vs e f = f a refl e
-  by-onward (fault n p) k vs e f = let z : _≡_ {A = ℕ} 0 1 = cc in let y : ⊥ = omega arith in absurd y
+  by-onward (fault n p) k vs e f = never (cc)
 
   runFrom-back : (k : ℕ) (w : List ℕ) (b : ℕ) (vs : List (Values r)) → length w ≤ k → runFrom k r w b ≡ whole vs → (w ≡ runOf r vs) × All (Accepted r) vs
   unfolding runFrom each
@@ -97,14 +97,14 @@ module _ (r : Members) where
 
   stopped-cons : (a : Values r) (x : Ran (Values r)) (vs : List (Values r)) (n p : ℕ) → andThen a x ≡ stopped vs n p → (us : List (Values r)) × (x ≡ stopped us n p) × (a ∷ us ≡ vs)
   unfolding andThen
-  stopped-cons a (whole us) vs n p e = let z : _≡_ {A = ℕ} 0 1 = cc in let y : ⊥ = omega arith in absurd y
+  stopped-cons a (whole us) vs n p e = never (cc)
   stopped-cons a (stopped us m q) vs n p e =
       let i : m ≡ n = cc in let j : q ≡ p = cc in let k : a ∷ us ≡ vs = cc in (us, rw (i, j) refl, k)
 
   runFrom-stops : (k : ℕ) (w : List ℕ) (b : ℕ) (vs : List (Values r)) (n p : ℕ) → length w ≤ k → runFrom k r w b ≡ stopped vs n p → Stops w b vs n p
   unfolding runFrom each hereIn onward bind
-  runFrom-stops zero w b vs n p h e = let z : _≡_ {A = ℕ} 0 1 = cc in let y : ⊥ = omega arith in absurd y
-  runFrom-stops (suc k) [] b vs n p h e = let z : _≡_ {A = ℕ} 0 1 = cc in let y : ⊥ = omega arith in absurd y
+  runFrom-stops zero w b vs n p h e = never (cc)
+  runFrom-stops (suc k) [] b vs n p h e = never (cc)
   runFrom-stops (suc k) (x ∷ w) b vs n p h e =
       go (recordAt largest-record r (x ∷ w) b) refl e λ a us l g. runFrom-stops k (a .rest) (a .after) us n p l g
     where
@@ -186,7 +186,7 @@ module _ (r : Members) where
       by-here x f = by-bind x _ _ f λ b e g. let h : b ≡ a = cc in rw (← h) e
 
       go : (w : List ℕ) → hereIn r w p ≡ good (some a) → (w ≡ recordOf r (a .value) ++ a .rest) × Accepted r (a .value) × (a .after ≡ p + length (recordOf r (a .value)))
-      go [] f = let z : _≡_ {A = ℕ} 0 1 = cc in let y : ⊥ = omega arith in absurd y
+      go [] f = never (cc)
       go (x ∷ w) f = let u = recordAt-back largest-record r (x ∷ w) p a (by-here _ f) in (u .0, (u .1, u .3), u .2)
 
   -- ---- a step of the run reader, by what it sees
