@@ -2,7 +2,6 @@
 use mathlib.Core.Path.{_≡_, refl, sym, ap, _∙_}
 use Prim.Native.Nat.{ℕ, suc, zero, _+_, _-_, _≤_, _<_}
 use native.Mathlib.Omega.{arith}
-use native.Mathlib.Nat.{add-zero}
 use mathlib.Core.Bool.{Bool, false}
 use mathlib.Core.List.{List, [], _∷_}
 use lib.ListN.{length, getD, take, length-append, length-drop, List·getD-eq-default}
@@ -18,8 +17,8 @@ use Rattle.heads.specs.Scan.{seen, headAt}
 use Rattle.heads.specs.declared.Seen.{Seen}
 use Rattle.heads.specs.declared.Seen.the-variants.{Item, Refused as Bad}
 use Rattle.heads.specs.declared.Step.the-variants.{Next, Refused}
-use Rattle.contents.specs.Leaves.{Leaf, ruleOf, Known, knownRule, only}
-use Rattle.contents.specs.Scan.{checkedAt, contentAt}
+use Rattle.contents.specs.Leaves.{Leaf, ruleOf, Known, only}
+use Rattle.contents.specs.Scan.{contentAt}
 use Rattle.contents.specs.declared.Checked.{Checked}
 use Rattle.contents.specs.declared.Checked.the-variants.{Fine, Wrong}
 use Rattle.items.specs.declared.Tag.{Tag}
@@ -29,8 +28,7 @@ use Rattle.layouts.specs.Scan.{judgedAt, leafAt, beginsAt, closeAt}
 use Rattle.primitives.specs.declared.Content.{Content}
 use Rattle.primitives.specs.declared.Content.the-variants as content
 use Rattle.primitives.specs.declared.Primitive.{Primitive}
-use Rattle.primitives.specs.declared.Word.{Word}
-use Rattle.primitives.specs.Primitive.{leafOf, knownOf, says}
+use Rattle.primitives.specs.Primitive.{leafOf, says}
 use Rattle.leaves.specs.Leaf.{pastOf}
 
 -- ---- a head, then a rule
@@ -44,8 +42,9 @@ module _ (l : Leaf) (s : List ℕ) (p e : ℕ) (u : Tag) (x : Seen) (i : tagByte
   unfolding leafAt
   leaf-judged a n z c y k g q j = rw (← i, ← h, k, ← g, ← q) j
 
-pub known-judged : (w : Known) (s : List ℕ) (p e a z : ℕ) (u : Tag) (x y : Seen) (c : Checked) → tagByte u ≡ w .leaf .tag → x ≡ headAt (tagByte u) s p e → x ≡ Item a z → c ≡ checkedAt (knownRule w) s p a z → y ≡ judgedAt c a z → y ≡ leafAt (only w) s p e
-known-judged w s p e a z u x y c i h k g j = leaf-judged (only w) s p e u x i h a 0 z c y k g refl (rw (add-zero a) j)
+-- a known member is the primitive item that it is named as
+pub known-leaf : (w : Known) (l : Leaf) (s : List ℕ) (p e : ℕ) (x : Seen) → l ≡ only w → x ≡ leafAt l s p e → x ≡ leafAt (only w) s p e
+known-leaf w l s p e x i h = rw (← i) h
 
 take-short : (n : ℕ) (l : List ℕ) → length (take n l) ≤ length l
 take-short zero l = omega arith
@@ -112,9 +111,6 @@ close-end p e h = pick-ge p e _ _ h
 module _ (s : List ℕ) (p a z : ℕ) (y : Checked) where
   pub primitive-rule : (f g : Primitive) → f ≡ g → y ≡ contentAt (leafOf g .front) (ruleOf (leafOf g .holds)) s p a z → y ≡ contentAt (leafOf f .front) (ruleOf (leafOf f .holds)) s p a z
   primitive-rule f g i h = rw i h
-
-  pub word-rule : (w v : Word) → w ≡ v → y ≡ checkedAt (knownRule (knownOf v)) s p a z → y ≡ checkedAt (knownRule (knownOf w)) s p a z
-  word-rule w v i h = rw i h
 
 pub content-says : (s : List ℕ) (c : Content) (a z : ℕ) (w : List ℕ) (t : Bool) → w ≡ slice a z s → t ≡ same w (0x01 ∷ []) → t ≡ says c (slice a z s)
 content-says s content.Kind1 a z w t i h = rw (← i) h

@@ -12,8 +12,8 @@ use terms::MAY_BE_EMPTY;
 use terms::NEVER_EMPTY;
 ghost use mathlib.Core.Path.{_≡_};
 ghost use lib.Seq.{slice};
-ghost use Rattle.contents.specs.Leaves.{ruleOf, knownRule, only};
-ghost use Rattle.contents.specs.Scan.{checkedAt, contentAt};
+ghost use Rattle.contents.specs.Leaves.{ruleOf, only};
+ghost use Rattle.contents.specs.Scan.{contentAt};
 ghost use Rattle.items.specs.Scan.{tagByte};
 ghost use Rattle.layouts.specs.Scan.{judgedAt, leafAt, beginsAt, closeAt};
 ghost use Rattle.primitives.specs.Primitive.{leafOf, knownOf, says};
@@ -37,26 +37,8 @@ fn rule(s: &[u8], p: Primitive, at: usize, a: usize, z: usize) -> Checked
         Primitive::ListKind => integers::integer(s, at, a, z, Allowed::Kind),
         Primitive::Millimetres => integers::integer(s, at, a, z, Allowed::Millimetres),
         Primitive::Critical => octets::boolean(s, at, a, z),
-    }
-}
-
-// The tag of a known member.
-fn word_tag(w: Word) -> Tag
-    ensures { λ r. ⌜ tagByte r ≡ knownOf w .leaf .tag ⌝ }
-{
-    match w {
-        Word::HeaderName => Tag::Ia5String,
-        Word::Version => Tag::Integer,
-    }
-}
-
-// The content of a known member by its rule.
-fn word_rule(s: &[u8], w: Word, at: usize, a: usize, z: usize) -> Checked
-    ensures { λ r. ⌜ r ≡ checkedAt (knownRule (knownOf w)) (now (s .entry)) at a z ⌝ }
-{
-    match w {
-        Word::HeaderName => texts::header_name(s, at, a, z),
-        Word::Version => integers::version(s, at, a, z),
+        Primitive::HeaderName => texts::header_name(s, at, a, z),
+        Primitive::Version => integers::version(s, at, a, z),
     }
 }
 
@@ -85,11 +67,7 @@ pub fn leaf(s: &[u8], p: Primitive, at: usize, end: usize) -> Seen
 pub fn known(s: &[u8], w: Word, at: usize, end: usize) -> Seen
     ensures { λ r. ⌜ r ≡ leafAt (only (knownOf w)) (now (s .entry)) at end ⌝ }
 {
-    let h = items::head(s, word_tag(w), at, end);
-    let Seen::Item(a, z) = h else {
-        return h;
-    };
-    judged(word_rule(s, w, at, a, z), a, z)
+    leaf(s, primitives::known_as(w), at, end)
 }
 
 // Whether what stands from one position to another is the content that is named.

@@ -7,9 +7,9 @@ use Rattle.contents.specs.Integer.{any, isKind, saysKind1, isMillimetres}
 use Rattle.contents.specs.Leaves as leaves
 use Rattle.contents.specs.Leaves.{Leaf}
 use Rattle.primitives.specs.declared.Primitive.{Primitive}
-use Rattle.primitives.specs.declared.Primitive.the-variants.{Octets, AnyOctets, Bits, Ia5, AnyIa5, AnyPrintable, AnyUtf8, Identifier, Time, Integer, ListKind, Millimetres, Critical}
+use Rattle.primitives.specs.declared.Primitive.the-variants.{Octets, AnyOctets, Bits, Ia5, AnyIa5, AnyPrintable, AnyUtf8, Identifier, Time, Integer, ListKind, Millimetres, Critical, HeaderName, Version}
 use Rattle.primitives.specs.declared.Word.{Word}
-use Rattle.primitives.specs.declared.Word.the-variants.{HeaderName, Version}
+use Rattle.primitives.specs.declared.Word.the-variants as word
 use Rattle.primitives.specs.declared.Content.{Content}
 use Rattle.primitives.specs.declared.Content.the-variants.{Kind1}
 
@@ -27,10 +27,12 @@ leafOf Integer = leaves.integer any
 leafOf ListKind = leaves.integer isKind
 leafOf Millimetres = leaves.integer isMillimetres
 leafOf Critical = leaves.boolean
+leafOf HeaderName = leaves.only leaves.headerName
+leafOf Version = leaves.only leaves.version
 
 abbrev pub knownOf : Word → leaves.Known
-knownOf HeaderName = leaves.headerName
-knownOf Version = leaves.version
+knownOf word.HeaderName = leaves.headerName
+knownOf word.Version = leaves.version
 
 -- whether a content is the one that is named
 abbrev pub says : Content → List ℕ → Bool

@@ -3,10 +3,11 @@ use items::Tag;
 ghost use mathlib.Core.Path.{_≡_};
 ghost use Prim.Native.Nat.{_≤_};
 ghost use lib.ListN.{length};
+ghost use Rattle.contents.specs.Leaves.{only};
 ghost use Rattle.items.specs.Scan.{tagByte};
-ghost use Rattle.primitives.specs.Primitive.{leafOf};
+ghost use Rattle.primitives.specs.Primitive.{leafOf, knownOf};
 
-// What a primitive item holds; `Any`: it may have no bytes.
+// What a primitive item holds; `Any`: it may have no bytes. The header's name and the version have one content only.
 pub enum Primitive {
     Octets,
     AnyOctets,
@@ -21,6 +22,8 @@ pub enum Primitive {
     ListKind,
     Millimetres,
     Critical,
+    HeaderName,
+    Version,
 }
 
 // A member whose content is known: the header's name and the version.
@@ -52,6 +55,8 @@ pub fn tag_of(p: Primitive) -> Tag
         Primitive::ListKind => Tag::Integer,
         Primitive::Millimetres => Tag::Integer,
         Primitive::Critical => Tag::Boolean,
+        Primitive::HeaderName => Tag::Ia5String,
+        Primitive::Version => Tag::Integer,
     }
 }
 
@@ -73,5 +78,17 @@ pub fn hidden_of(p: Primitive) -> usize
         Primitive::ListKind => 0,
         Primitive::Millimetres => 0,
         Primitive::Critical => 0,
+        Primitive::HeaderName => 0,
+        Primitive::Version => 0,
+    }
+}
+
+// The primitive item that a known member is.
+pub fn known_as(w: Word) -> Primitive
+    ensures { λ r. ⌜ leafOf r ≡ only (knownOf w) ⌝ }
+{
+    match w {
+        Word::HeaderName => Primitive::HeaderName,
+        Word::Version => Primitive::Version,
     }
 }

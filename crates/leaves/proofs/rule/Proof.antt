@@ -82,6 +82,18 @@ enum-told-13 c = search needs
 boolean-requires : tie.Need-boolean-requires
 boolean-requires c κs = search needs
 
+enum-told-14 : tie.Need-enum-told-14
+enum-told-14 c = search needs
+
+header-name-requires : tie.Need-header-name-requires
+header-name-requires c κs = search needs
+
+enum-told-15 : tie.Need-enum-told-15
+enum-told-15 c = search needs
+
+version-requires : tie.Need-version-requires
+version-requires c κs = search needs
+
 returns : tie.Need-returns
 returns c = search (needs, primitive-rule)
 
@@ -121,6 +133,12 @@ returns-12 c = search (needs, primitive-rule)
 returns-13 : tie.Need-returns-13
 returns-13 c = search (needs, primitive-rule)
 
+returns-14 : tie.Need-returns-14
+returns-14 c = search (needs, primitive-rule)
+
+returns-15 : tie.Need-returns-15
+returns-15 c = search (needs, primitive-rule)
+
 pub rule-spec : {M : Type 1} → statement M
 rule-spec =
     tie.close
@@ -151,6 +169,10 @@ rule-spec =
     integer-requires-3
     enum-told-13
     boolean-requires
+    enum-told-14
+    header-name-requires
+    enum-told-15
+    version-requires
     returns
     returns-2
     returns-3
@@ -163,4 +185,6 @@ rule-spec =
     returns-10
     returns-11
     returns-12
-    returns-13)
+    returns-13
+    returns-14
+    returns-15)
