@@ -5,16 +5,16 @@ use Prim.Native.Nat.{ℕ}
 use Rattle.terms.specs.Answer.{Res, fault, pick, bind, need, have, every}
 use Rattle.terms.specs.Digits.{digits, numberFrom, leading}
 use Rattle.terms.specs.Numbers.{bad-length, past-end, too-large, largest-record}
-use Rattle.heads.specs.Head.{Cut, spell, octets, unspell, size, opening, cut, outermost}
+use Rattle.heads.specs.Head.{forms, Cut, spell, octets, unspell, anySize, isShortest, size, opening, cut, outermost}
 
 -- what is opened to evaluate
 evaluate : Unit {0}
-unfolding pick bind need have every digits numberFrom leading spell octets unspell size opening cut outermost
+unfolding pick bind need have every digits numberFrom leading spell octets unspell anySize isShortest size opening cut outermost
 evaluate = tt
 
 -- a SEQUENCE of a declared length, of which nothing more is there
 abbrev declared : List ℕ → Res Cut
-declared length = outermost largest-record 0x30 (0x30 ∷ length) 0
+declared length = outermost forms largest-record 0x30 (0x30 ∷ length) 0
 
 spelled-first : declared (0x82 ∷ 0x00 ∷ 0xFF ∷ []) ≡ fault bad-length 0
 unfolding evaluate

@@ -4,7 +4,7 @@ use mathlib.Core.List.{List}
 use lib.ListN.{length}
 use lib.Seq.{slice}
 use Rattle.terms.specs.Answer.{Res, good, fault}
-use Rattle.heads.specs.Head.{Cut, head, outermost}
+use Rattle.heads.specs.Head.{forms, Cut, head, outermost}
 use Rattle.heads.specs.declared.Seen.{Seen}
 use Rattle.heads.specs.declared.Seen.the-variants.{Item, Refused}
 
@@ -13,7 +13,7 @@ seen (good c) = Item (c .start) (c .start + length (c .content))
 seen (fault n p) = Refused n p
 
 unfoldable pub headAt : ℕ → List ℕ → ℕ → ℕ → Seen
-headAt t s p e = seen (head t (slice p e s) p)
+headAt t s p e = seen (head forms t (slice p e s) p)
 
 unfoldable pub outermostAt : ℕ → ℕ → List ℕ → ℕ → ℕ → Seen
-outermostAt most t s p e = seen (outermost most t (slice p e s) p)
+outermostAt most t s p e = seen (outermost forms most t (slice p e s) p)

@@ -3,9 +3,9 @@ use mathlib.Core.Path.{_≡_}
 use Prim.Native.Nat.{ℕ, _+_}
 use mathlib.Core.List.{List}
 use lib.Seq.{slice}
-use lib.Dec.{ltb, eqb}
+use lib.Dec.{eqb}
 use Rattle.terms.specs.Answer.{Res, good, fault, pick}
-use Rattle.heads.specs.Head.{Size, size, opening, before}
+use Rattle.heads.specs.Head.{forms, Size, anySize, isShortest, opening}
 use Rattle.items.specs.declared.Tag.{Tag}
 use Rattle.items.specs.declared.Tag.the-variants.{Boolean, Integer, BitString, OctetString, Identifier, Utf8String, PrintableString, Ia5String, Time, Sequence, Context0}
 use Rattle.items.specs.declared.Tagged.{Tagged}
@@ -43,21 +43,17 @@ Tells b Other = (t : Tag) → b ≡ tagByte t → ⊥
 unfoldable pub formOf : ℕ → Form
 formOf h = pick (eqb h 2) Short (pick (eqb h 3) OneByte TwoBytes)
 
-abbrev pub spelled : Res Size → Length
-spelled (good z) = Spelled (formOf (before (z .0))) (before (z .0)) (z .0)
-spelled (fault n p) = Bad
-
--- a length that a form is for from `l` on
-abbrev pub longOf : Form → ℕ → ℕ → ℕ → Length
-longOf o h l n = pick (ltb n l) Bad (Spelled o h n)
+abbrev pub lengthOf : Res Size → Length
+lengthOf (good z) = Spelled (formOf (z .header)) (z .header) (z .content) (isShortest forms z)
+lengthOf (fault n p) = Bad
 
 -- the length of the item whose tag stands at `p`
 unfoldable pub lengthAt : List ℕ → ℕ → ℕ → Length
-lengthAt s p e = spelled (size p (slice (p + 1) e s))
+lengthAt s p e = lengthOf (anySize forms p (slice (p + 1) e s))
 
 abbrev pub opened : Res Size → Opening
-opened (good z) = Opened (before (z .0)) (z .0)
+opened (good z) = Opened (z .header) (z .content)
 opened (fault n p) = Unopened n p
 
 unfoldable pub openingAt : ℕ → List ℕ → ℕ → ℕ → Opening
-openingAt t s p e = opened (opening t (slice p e s) p)
+openingAt t s p e = opened (opening forms t (slice p e s) p)

@@ -2,7 +2,7 @@
 ghost use mathlib.Core.Path.{_≡_};
 ghost use Prim.Native.Nat.{_+_, _≤_, _<_};
 ghost use lib.ListN.{length};
-ghost use Rattle.items.specs.Scan.{tagByte, Tells, longOf, lengthAt, openingAt};
+ghost use Rattle.items.specs.Scan.{tagByte, Tells, lengthAt, openingAt};
 ghost use Rattle.heads.specs.Scan.{headAt, outermostAt};
 ghost use Rattle.items.specs.Laws.Scan.{roomAt};
 use heads::Seen;
@@ -28,30 +28,31 @@ pub enum Tag {
 }
 
 // What a tag byte is: one of the rules' tags, or another.
-pub enum Tagged {
+enum Tagged {
     Known(Tag),
     Other,
 }
 
 // How a length is spelled: in its one byte, or in one or two bytes after 81 or 82.
-pub enum Form {
+enum Form {
     Short,
     OneByte,
     TwoBytes,
 }
 
-// A length: its form, the bytes of tag and length together, and the bytes of the content.
-pub enum Length {
+// A length: its form, the bytes of tag and length together, those of the content, and whether no shorter form has it.
+enum Length {
     Spelled {
         form: Form,
         header: usize,
         content: usize,
+        shortest: bool,
     },
     Bad,
 }
 
 // A tag and a length that were read: the bytes of both together and those of the content, or the refusal's number and place.
-pub enum Opening {
+enum Opening {
     Opened(usize, usize),
     Refused(u8, usize),
 }
@@ -76,7 +77,7 @@ pub fn tag_byte(t: Tag) -> u8
 }
 
 // The tag of a byte.
-pub fn tag_of(b: u8) -> Tagged
+fn tag_of(b: u8) -> Tagged
     ensures { λ r. ⌜ Tells b r ⌝ }
 {
     match b {
@@ -102,20 +103,6 @@ fn wide(b: u8) -> usize
     b as usize
 }
 
-// A length after 81 or 82: bad below the least, since a shorter form has it.
-fn long(form: Form, header: usize, least: usize, content: usize) -> Length
-    ensures { λ r. ⌜ r ≡ longOf form header least content ⌝ }
-{
-    if content < least {
-        return Length::Bad;
-    }
-    Length::Spelled {
-        form,
-        header,
-        content,
-    }
-}
-
 // The length of the item whose tag stands at a position: its form, its header and its content by the byte after the tag.
 fn length_at(s: &[u8], at: usize, end: usize) -> Length
     requires { ⌜ (at < end) × (end ≤ length (now s)) ⌝ }
@@ -131,20 +118,31 @@ fn length_at(s: &[u8], at: usize, end: usize) -> Length
             form: Form::Short,
             header: 2,
             content: wide(b),
+            shortest: true,
         },
         0x81 => {
             if left < 3 {
                 return Length::Bad;
             }
             let n = wide(s[at + 2]);
-            long(Form::OneByte, 3, 128, n)
+            Length::Spelled {
+                form: Form::OneByte,
+                header: 3,
+                content: n,
+                shortest: 128 <= n,
+            }
         }
         0x82 => {
             if left < 4 {
                 return Length::Bad;
             }
             let n = wide(s[at + 2]) * 256 + wide(s[at + 3]);
-            long(Form::TwoBytes, 4, 256, n)
+            Length::Spelled {
+                form: Form::TwoBytes,
+                header: 4,
+                content: n,
+                shortest: 256 <= n,
+            }
         }
         _ => Length::Bad,
     }
@@ -168,10 +166,14 @@ fn open(s: &[u8], tag: Tag, at: usize, end: usize) -> Opening
         form: _,
         header,
         content,
+        shortest,
     } = length_at(s, at, end)
     else {
         return Opening::Refused(BAD_LENGTH, at);
     };
+    if !shortest {
+        return Opening::Refused(BAD_LENGTH, at);
+    }
     Opening::Opened(header, content)
 }
 

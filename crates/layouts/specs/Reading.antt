@@ -9,7 +9,7 @@ use lib.ListN.{length, take, drop}
 use lib.Dec.{eqb}
 use Rattle.terms.specs.Numbers.{left-over, bad-bits, no-item, too-many-items}
 use Rattle.terms.specs.Answer.{Res, good, fault, Got, got, pick, bind, need, enough, same, finish}
-use Rattle.heads.specs.Head.{Cut, cutOff, head}
+use Rattle.heads.specs.Head.{forms, Cut, cutOff, head}
 use Rattle.contents.specs.Content.{judge}
 use Rattle.contents.specs.Leaves.{Leaf, ruleOf, boolean, only}
 use Rattle.layouts.specs.Layout.{Item, leaf, node, list, wrap, Members, end, _▸_, Member, known, one, maybe, flag, choose, tagOf, Value, Values, Part}
@@ -24,7 +24,7 @@ behind f b c = need (same (take (length f) (c .content)) f) bad-bits b (good (cu
 
 -- a primitive item, its value as the content: its head, what it must begin with, then its own rule
 unfoldable pub readLeaf : Leaf → List ℕ → ℕ → Res Cut
-readLeaf l w b = bind (head (l .tag) w b) λ c. bind (behind (l .front) b c) λ v. judge (ruleOf (l .holds) (v .content)) b (v .start) (good v)
+readLeaf l w b = bind (head forms (l .tag) w b) λ c. bind (behind (l .front) b c) λ v. judge (ruleOf (l .holds) (v .content)) b (v .start) (good v)
 
 -- whether a window begins with a tag
 unfoldable pub begins : ℕ → List ℕ → Bool
@@ -51,12 +51,12 @@ readEither t f g w b = pick t (bind (f w b) λ a. good (got (inl (a .value)) (a 
 unfoldable mutual
   pub read : (i : Item) → List ℕ → ℕ → Res (Got (Value i))
   read (leaf l) w b = bind (readLeaf l w b) λ c. good (got (c .content) (c .rest) (next c))
-  read (node t r) w b = bind (head t w b) λ c. bind (reads r (c .content) (c .start)) λ v. good (got v (c .rest) (next c))
+  read (node t r) w b = bind (head forms t w b) λ c. bind (reads r (c .content) (c .start)) λ v. good (got v (c .rest) (next c))
   read (list t e n f i) w b =
-      bind (head t w b) λ c.
+      bind (head forms t w b) λ c.
       need (enough e (c .content)) no-item b
       (bind (many (λ x p. read i x p) n (c .content) (c .start)) λ vs. good (got vs (c .rest) (next c)))
-  read (wrap t i) w b = bind (head t w b) λ c. bind (read i (c .content) (c .start)) λ a. bind (finish left-over a) λ v. good (got v (c .rest) (next c))
+  read (wrap t i) w b = bind (head forms t w b) λ c. bind (read i (c .content) (c .start)) λ a. bind (finish left-over a) λ v. good (got v (c .rest) (next c))
 
   pub reads : (r : Members) → List ℕ → ℕ → Res (Values r)
   reads end w b = finish left-over (got tt w b)

@@ -6,7 +6,7 @@ use lib.ListN.{length, drop}
 use lib.Dec.{leb}
 use Rattle.terms.specs.Numbers.{done, left-over, too-large, bad-sheet, no-room}
 use Rattle.terms.specs.Answer.{Res, good, fault, Got, got, bind, need, finish, Told, told-one, refusal}
-use Rattle.heads.specs.Head.{tlv, outermost}
+use Rattle.heads.specs.Head.{forms, tlv, outermost}
 use Rattle.layouts.specs.Layout.{Members, Values, Oks, encodes}
 use Rattle.layouts.specs.Reading.{next, reads}
 use Rattle.layouts.specs.Sheet.{sheets, fills}
@@ -27,7 +27,7 @@ Allowed most r v = Oks r v × (length (recordOf r v) ≤ most)
 
 -- a record at the front of a window, whatever follows it
 unfoldable pub recordAt : ℕ → (r : Members) → List ℕ → ℕ → Res (Got (Values r))
-recordAt most r w b = bind (outermost most sequence w b) λ c. bind (reads r (c .content) (c .start)) λ v. good (got v (c .rest) (next c))
+recordAt most r w b = bind (outermost forms most sequence w b) λ c. bind (reads r (c .content) (c .start)) λ v. good (got v (c .rest) (next c))
 
 -- a record that is the whole input
 unfoldable pub accept : ℕ → (r : Members) → List ℕ → Res (Values r)

@@ -11,7 +11,7 @@ use borrow.Author.Tests.{lt-ltb, le-ltb}
 use Rattle.terms.specs.Numbers.{left-over}
 use Rattle.terms.specs.Answer.{Res, good, fault, same}
 use Rattle.terms.specs.Laws.Answer.{never, pick-lt, pick-ge}
-use Rattle.heads.specs.Head.{Cut, head, tlv, before}
+use Rattle.heads.specs.Head.{forms, Cut, head, tlv, before}
 use Rattle.heads.specs.Laws.Head.{head-back, length-tlv}
 use Rattle.heads.specs.Scan.{seen, headAt}
 use Rattle.heads.specs.declared.Seen.{Seen}
@@ -54,9 +54,9 @@ take-short (suc n) (x ∷ l) = let h = take-short n l in omega arith
 -- a head ends in the slice
 pub head-inside : (t : ℕ) (s : List ℕ) (p e a z : ℕ) (x : Seen) → x ≡ headAt t s p e → x ≡ Item a z → a ≤ length s
 unfolding headAt
-head-inside t s p e a z x i j = go (head t (slice p e s) p) refl (sym i ∙ j)
+head-inside t s p e a z x i j = go (head forms t (slice p e s) p) refl (sym i ∙ j)
   where
-    go : (x : Res Cut) → head t (slice p e s) p ≡ x → seen x ≡ Item a z → a ≤ length s
+    go : (x : Res Cut) → head forms t (slice p e s) p ≡ x → seen x ≡ Item a z → a ≤ length s
     go (good c) o g =
         let b = head-back t (slice p e s) p c o in
         let n : length (slice p e s) ≡ length (take e s) - p = length-drop p (take e s) in

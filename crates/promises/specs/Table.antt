@@ -7,7 +7,7 @@ use lib.IntN.{negsuc}
 use Rattle.terms.specs.Numbers.{done}
 use Rattle.terms.specs.Answer.{Res, good, fault, Got, Told, gives, refuses, told-none, told-one, refusal, answered, may-be-empty}
 use Rattle.terms.specs.Laws.Table.{Row, asks, answers, agreed}
-use Rattle.heads.specs.Head.{size}
+use Rattle.heads.specs.Head.{forms, size}
 use Rattle.contents.specs.Content.{toldCheck}
 use Rattle.contents.specs.Integer.{value, any}
 use Rattle.contents.specs.Leaves.{Leaf, ruleOf, integer, identifier, utf8String, generalizedTime}
@@ -27,7 +27,7 @@ anInteger w = toldInteger (read (leaf (integer any)) w 0)
 
 -- a length, read: its number
 abbrev aLength : List ℕ → Told
-aLength w = answered (λ z. z .0) (size 0 w)
+aLength w = answered (λ z. z .content) (size forms 0 w)
 
 -- a content, by its rule
 abbrev aContent : Leaf → List ℕ → Told

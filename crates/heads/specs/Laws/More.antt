@@ -13,16 +13,16 @@ use Rattle.terms.specs.Numbers.{bad-length, other-tag, too-large}
 use Rattle.terms.specs.Answer.{Res, good, fault, pick, bind, need, have, every}
 use Rattle.terms.specs.Digits.{isByte, number, leading}
 use Rattle.terms.specs.Laws.Answer.{test, and-l, and-r, is-true, is-false}
-use Rattle.heads.specs.Head.{Form, forms, Size, unspell, size, opening, Cut, cutOff, before, cut, outermost}
+use Rattle.heads.specs.Head.{Form, forms, Size, sized, unspell, anySize, isShortest, size, opening, Cut, cutOff, cut, outermost}
 use Rattle.heads.specs.Laws.Head.{opening-rest}
 
 -- what was read, with more after it
-abbrev moreSome : List ℕ → Option Size → Option Size
+abbrev moreSome : List ℕ → Option (ℕ × List ℕ) → Option (ℕ × List ℕ)
 moreSome z none = none
 moreSome z (some x) = some (x .0, x .1 ++ z)
 
 abbrev moreSize : List ℕ → Res Size → Res Size
-moreSize z (good x) = good (x .0, x .1 ++ z)
+moreSize z (good x) = good (sized (x .header) (x .content) (x .rest ++ z))
 moreSize z (fault n p) = fault n p
 
 abbrev pub moreCut : List ℕ → Res Cut → Res Cut
@@ -56,37 +56,46 @@ unspell-more [] p a w z h = refl
 unspell-more (f ∷ fs) p a w z h =
     let l : f .bytes ≤ length w = leb→le (f .bytes) (length w) (and-l (leb (f .bytes) (length w)) _ h) in
     let k = unspell-more fs p a w z (and-r (leb (f .bytes) (length w)) _ h) in
-    rw (leading-more (f .bytes) w z l, k, spelled (leading (f .bytes) w)) (pick-more z (eqb a (f .octet)) _ _)
+    rw (leading-more (f .bytes) w z l, k, read (leading (f .bytes) w)) (pick-more z (eqb a (f .octet)) _ _)
   where
-    spelled : (o : Option Size) → (bind (have (moreSome z o) bad-length p) λ x. need (leb (f .from) (x .0)) bad-length p (good x))
-        ≡ moreSize z (bind (have o bad-length p) λ x. need (leb (f .from) (x .0)) bad-length p (good x))
-    spelled none = refl
-    spelled (some x) = need-more z (leb (f .from) (x .0)) bad-length p (good x)
+    read : (o : Option (ℕ × List ℕ)) → (bind (have (moreSome z o) bad-length p) λ x. good (sized (2 + f .bytes) (x .0) (x .1))) ≡ moreSize z (bind (have o bad-length p) λ x. good (sized (2 + f .bytes) (x .0) (x .1)))
+    read none = refl
+    read (some x) = refl
 
--- a head of three forms is at most four bytes long
-opening-more : (t : ℕ) (w z : List ℕ) (b : ℕ) → 4 ≤ length w → opening t (w ++ z) b ≡ moreSize z (opening t w b)
-unfolding opening size every
-opening-more t [] z b h = absurd (omega arith)
-opening-more t (x ∷ []) z b h = absurd (omega arith)
-opening-more t (x ∷ a ∷ w) z b h =
+-- a length of three forms is at most three bytes long
+size-more : (p : ℕ) (w z : List ℕ) → 3 ≤ length w → size forms p (w ++ z) ≡ moreSize z (size forms p w)
+unfolding size anySize isShortest every bind
+size-more p [] z h = absurd (omega arith)
+size-more p (a ∷ w) z h =
     let l : 1 ≤ length w = omega arith in
     let k : 2 ≤ length w = omega arith in
-    rw (unspell-more forms b a w z (rw (le-leb 1 (length w) l, le-leb 2 (length w) k) tt))
-    (ap (need (eqb x t) other-tag b) (pick-more z (ltb a 128) (good (a, w)) (unspell forms b a w)) ∙ need-more z (eqb x t) other-tag b _)
+    rw (unspell-more forms p a w z (rw (le-leb 1 (length w) l, le-leb 2 (length w) k) tt), pick-more z (ltb a 128) (good (sized 2 a w)) (unspell forms p a w))
+    (go (pick (ltb a 128) (good (sized 2 a w)) (unspell forms p a w)))
+  where
+    go : (r : Res Size) → (bind (moreSize z r) λ x. need (isShortest forms x) bad-length p (good x)) ≡ moreSize z (bind r λ x. need (isShortest forms x) bad-length p (good x))
+    go (good x) = need-more z (isShortest forms x) bad-length p (good x)
+    go (fault n q) = refl
+
+opening-more : (t : ℕ) (w z : List ℕ) (b : ℕ) → 4 ≤ length w → opening forms t (w ++ z) b ≡ moreSize z (opening forms t w b)
+unfolding opening
+opening-more t [] z b h = absurd (omega arith)
+opening-more t (x ∷ w) z b h = ap (need (eqb x t) other-tag b) (size-more b w z (omega arith)) ∙ need-more z (eqb x t) other-tag b _
 
 -- of a window with more bytes than the largest record has
-pub outermost-more : (most t : ℕ) (w z : List ℕ) (b : ℕ) → most < length w → 4 ≤ length w → outermost most t (w ++ z) b ≡ moreCut z (outermost most t w b)
+pub outermost-more : (most t : ℕ) (w z : List ℕ) (b : ℕ) → most < length w → 4 ≤ length w → outermost forms most t (w ++ z) b ≡ moreCut z (outermost forms most t w b)
 unfolding outermost bind need cut
-outermost-more most t w z b m h = rw (opening-more t w z b h) (go (opening t w b) refl)
+outermost-more most t w z b m h = rw (opening-more t w z b h) (go (opening forms t w b) refl)
   where
-    held : (x : Size) → length w ≡ before (x .0) + length (x .1) → need (leb (before (x .0) + x .0) most) too-large b (cut b (x .0, x .1 ++ z)) ≡ moreCut z (need (leb (before (x .0) + x .0) most) too-large b (cut b x))
-    held x l = test (leb (before (x .0) + x .0) most)
-        (λ y. let k : before (x .0) + x .0 ≤ most = leb→le _ _ y in
-        let i : x .0 ≤ length (x .1) = omega arith in
-        let j : x .0 ≤ length (x .1 ++ z) = rw length-append (omega arith) in
-        rw (is-true (leb (before (x .0) + x .0) most) y, le-leb (x .0) (length (x .1)) i, le-leb (x .0) (length (x .1 ++ z)) j, take-append-le (x .0) (x .1) z i, drop-append-le (x .0) (x .1) z i) refl)
-        (λ y. rw (is-false (leb (before (x .0) + x .0) most) y) refl)
+    held : (x : Size) → length w ≡ x .header + length (x .rest)
+        → need (leb (x .header + x .content) most) too-large b (cut b (sized (x .header) (x .content) (x .rest ++ z))) ≡ moreCut z (need (leb (x .header + x .content) most) too-large b (cut b x))
+    held x l = test (leb (x .header + x .content) most)
+        (λ y. let k : x .header + x .content ≤ most = leb→le _ _ y in
+        let n : ℕ = x .content in
+        let i : n ≤ length (x .rest) = omega arith in
+        let j : n ≤ length (x .rest ++ z) = rw length-append (omega arith) in
+        rw (is-true (leb (x .header + n) most) y, le-leb n (length (x .rest)) i, le-leb n (length (x .rest ++ z)) j, take-append-le n (x .rest) z i, drop-append-le n (x .rest) z i) refl)
+        (λ y. rw (is-false (leb (x .header + x .content) most) y) refl)
 
-    go : (r : Res Size) → opening t w b ≡ r → (bind (moreSize z r) λ x. need (leb (before (x .0) + x .0) most) too-large b (cut b x)) ≡ moreCut z (bind r λ x. need (leb (before (x .0) + x .0) most) too-large b (cut b x))
+    go : (r : Res Size) → opening forms t w b ≡ r → (bind (moreSize z r) λ x. need (leb (x .header + x .content) most) too-large b (cut b x)) ≡ moreCut z (bind r λ x. need (leb (x .header + x .content) most) too-large b (cut b x))
     go (good x) e = held x (opening-rest t w b x e .0)
     go (fault n p) e = refl

@@ -1,5 +1,4 @@
 -- `items::length_at`: the byte after the tag picks the form; 81 and 82 by one law over the form.
-use Rattle.heads.specs.Head.{one-byte, two-bytes}
 use Rattle.items.specs.Laws.Scan.{length-missing, length-short, length-other, one-reads, two-reads, long-cut, one-read, two-read}
 use borrow.Author.Needs.{needs}
 use Rattle.items.proofs.length_at.Statement.{statement}
@@ -18,7 +17,7 @@ shared-slice-read-b : tie.Need-shared-slice-read-b
 shared-slice-read-b c = search needs
 
 returns-2 : tie.Need-returns-2
-returns-2 c = search (needs, long-cut one-byte one-reads)
+returns-2 c = search (needs, long-cut 0x81 1 one-reads)
 
 add-wide : tie.Need-add-wide
 add-wide c = search needs
@@ -29,11 +28,8 @@ shared-slice-read-wide c = search needs
 wide-requires : tie.Need-wide-requires
 wide-requires c κs = search needs
 
-long-requires : tie.Need-long-requires
-long-requires c κs = search needs
-
 returns-3 : tie.Need-returns-3
-returns-3 c = search (needs, long-cut two-bytes two-reads)
+returns-3 c = search (needs, long-cut 0x82 2 two-reads)
 
 add-wide-2 : tie.Need-add-wide-2
 add-wide-2 c = search needs
@@ -58,9 +54,6 @@ wide-requires-3 c κs = search needs
 
 add-n : tie.Need-add-n
 add-n c = search needs
-
-long-requires-2 : tie.Need-long-requires-2
-long-requires-2 c κs = search needs
 
 wide-requires-4 : tie.Need-wide-requires-4
 wide-requires-4 c κs = search needs
@@ -89,7 +82,6 @@ length-at-spec =
     add-wide
     shared-slice-read-wide
     wide-requires
-    long-requires
     returns-3
     add-wide-2
     shared-slice-read-wide-2
@@ -99,7 +91,6 @@ length-at-spec =
     shared-slice-read-wide-3
     wide-requires-3
     add-n
-    long-requires-2
     wide-requires-4
     returns-4
     returns-5

@@ -1,5 +1,5 @@
--- `items::open`: the tag by what its byte tells, then the length.
-use Rattle.items.specs.Laws.Scan.{opening-missing, opening-other, opening-bad, opening-good}
+-- `items::open`: the tag by what its byte tells, then the length, which is to be shortest.
+use Rattle.items.specs.Laws.Scan.{opening-missing, opening-other, opening-bad, opening-long, opening-good}
 use Rattle.items.specs.Laws.Tag.{tells-other, found-same, found-other}
 use borrow.Author.Needs.{needs}
 use Rattle.items.proofs.open.Statement.{statement}
@@ -45,7 +45,10 @@ returns-4 : tie.Need-returns-4
 returns-4 c = search (needs, opening-bad, found-same)
 
 returns-5 : tie.Need-returns-5
-returns-5 c = search (needs, opening-good, found-same)
+returns-5 c = search (needs, opening-long, found-same)
+
+returns-6 : tie.Need-returns-6
+returns-6 c = search (needs, opening-good, found-same)
 
 pub open-spec : {M : Type 1} → statement M
 open-spec =
@@ -64,4 +67,5 @@ open-spec =
     enum-known-header
     enum-told-2
     returns-4
-    returns-5)
+    returns-5
+    returns-6)

@@ -12,7 +12,7 @@ use lib.Dec.{T}
 use Rattle.terms.specs.declared.Field.{Field}
 use Rattle.terms.specs.Answer.{every}
 use Rattle.terms.specs.Laws.Answer.{test, both, pick-yes, pick-no}
-use Rattle.heads.specs.Head.{tlv, octets, before}
+use Rattle.heads.specs.Head.{forms, tlv, octets, before}
 use Rattle.contents.specs.Rules.{yes-byte}
 use Rattle.contents.specs.Leaves.{Leaf, boolean}
 use Rattle.contents.specs.Laws.Leaves.{IsBytes, section-is-value}
@@ -34,11 +34,11 @@ abbrev Placed : {A : Type 0} → List ℕ → (A → List ℕ) → (A → ℕ �
 Placed {A} s e f = (a : A) (p z : List ℕ) → s ≡ p ++ (e a ++ z) → All (Stands s) (f a (length p))
 
 -- inside a tag: the content stands after the head
-inside : (s p z : List ℕ) (t : ℕ) (c : List ℕ) → s ≡ p ++ (tlv t c ++ z) → (s ≡ (p ++ (t ∷ octets (length c))) ++ (c ++ z)) × (length (p ++ (t ∷ octets (length c))) ≡ length p + before (length c))
+inside : (s p z : List ℕ) (t : ℕ) (c : List ℕ) → s ≡ p ++ (tlv t c ++ z) → (s ≡ (p ++ (t ∷ octets forms (length c))) ++ (c ++ z)) × (length (p ++ (t ∷ octets forms (length c))) ≡ length p + before (length c))
 unfolding tlv
 inside s p z t c e = (
-  e ∙ ap (λ (y : List ℕ). p ++ (t ∷ y)) (append-assoc (octets (length c)) c z) ∙ sym (append-assoc p (t ∷ octets (length c)) (c ++ z)),
-  length-append p (t ∷ octets (length c)) ∙ omega arith,
+  e ∙ ap (λ (y : List ℕ). p ++ (t ∷ y)) (append-assoc (octets forms (length c)) c z) ∙ sym (append-assoc p (t ∷ octets forms (length c)) (c ++ z)),
+  length-append p (t ∷ octets forms (length c)) ∙ omega arith,
 )
 
 -- past a part: the next stands after it
@@ -53,7 +53,7 @@ unfolding encodeLeaf
 leaf-stands s p z l v e =
     let f = l .front in
     let n = inside s p z (l .tag) (f ++ v) e in
-    let q : List ℕ = p ++ (l .tag ∷ octets (length (f ++ v))) in
+    let q : List ℕ = p ++ (l .tag ∷ octets forms (length (f ++ v))) in
     let m = past s q f v z (n .0) in
     stands-after s (q ++ f) v z (startOf l v (length p)) (m .1) (m .2 ∙ ap (λ (k : ℕ). k + length f) (n .1))
 
@@ -91,15 +91,15 @@ module _ (s : List ℕ) where
     item-placed (leaf l) f k v p z q = (leaf-stands s p z l v q, tt)
     item-placed (node t r) f k v p z q =
         let n = inside s p z t (encodes r v) q in
-        (stands-after s p (tlv t (encodes r v)) z (length p) q refl, rw (n .1) at (run-placed r k v (p ++ (t ∷ octets (length (encodes r v)))) z (n .0)))
+        (stands-after s p (tlv t (encodes r v)) z (length p) q refl, rw (n .1) at (run-placed r k v (p ++ (t ∷ octets forms (length (encodes r v)))) z (n .0)))
     item-placed (list t e m g i) f k vs p z q =
         let c : List ℕ = each (λ v. encode i v) vs in
         let n = inside s p z t c q in
-        let u = each-placed s (λ v. encode i v) (λ j v b. itemFields i g j v b) (λ j v p z q. item-placed i g j v p z q) 0 vs (p ++ (t ∷ octets (length c))) z (n .0) in
+        let u = each-placed s (λ v. encode i v) (λ j v b. itemFields i g j v b) (λ j v p z q. item-placed i g j v p z q) 0 vs (p ++ (t ∷ octets forms (length c))) z (n .0) in
         all-append (Stands s) (eachFields (λ j v b. itemFields i g j v b) (λ v. encode i v) 0 vs (length p + before (length c))) _ (rw (n .1) at u) (stands-after s p (tlv t c) z (length p) q refl, tt)
     item-placed (wrap t i) f k v p z q =
         let n = inside s p z t (encode i v) q in
-        rw (n .1) at (item-placed i f k v (p ++ (t ∷ octets (length (encode i v)))) z (n .0))
+        rw (n .1) at (item-placed i f k v (p ++ (t ∷ octets forms (length (encode i v)))) z (n .0))
 
     run-placed : (r : Members) (k : ℕ) → Placed s (λ v. encodes r v) (λ v b. runFields r k v b)
     run-placed end k v p z q = tt
@@ -126,8 +126,8 @@ unfolding fields
 fields-stand r v =
     let c : List ℕ = encodes r v in
     let n = inside (recordOf r v) [] [] sequence c (sym (append-nil (recordOf r v))) in
-    let m : length (sequence ∷ octets (length c)) ≡ before (length c) = omega arith in
-    rw m at (run-placed (recordOf r v) r 0 v (sequence ∷ octets (length c)) [] (n .0))
+    let m : length (sequence ∷ octets forms (length c)) ≡ before (length c) = omega arith in
+    rw m at (run-placed (recordOf r v) r 0 v (sequence ∷ octets forms (length c)) [] (n .0))
 
 -- ---- a part is what its section has
 

@@ -11,7 +11,7 @@ use Rattle.terms.specs.declared.Field.{Field}
 use Rattle.terms.specs.Numbers.{left-over, too-many-items}
 use Rattle.terms.specs.Answer.{Res, good, Got, pick}
 use Rattle.terms.specs.Laws.Answer.{clash, good-inj, pick-yes, by-bind, by-need}
-use Rattle.heads.specs.Head.{Cut, head, tlv, before}
+use Rattle.heads.specs.Head.{forms, Cut, head, tlv, before}
 use Rattle.heads.specs.Scan.{headAt, outermostAt}
 use Rattle.heads.specs.Laws.Head.{head-back, outermost-back, length-tlv}
 use Rattle.heads.specs.declared.Seen.the-variants.{Item as At}
@@ -46,7 +46,7 @@ by-pick false r r′ a x x′ y h f g = g h
 
 module _ (s : List ℕ) where
   -- what stands behind a head: a window of the slice, where it starts and where the item ends
-  head-place : (t p e : ℕ) → p ≤ e → e ≤ length s → (c : Cut) → head t (slice p e s) p ≡ good c
+  head-place : (t p e : ℕ) → p ≤ e → e ≤ length s → (c : Cut) → head forms t (slice p e s) p ≡ good c
       → (c .content ≡ slice (c .start) (next c) s) × (c .start ≤ next c) × (next c ≤ length s) × (c .start ≡ p + before (length (c .content))) × (next c ≡ p + length (tlv t (c .content)))
   head-place t p e pe es c h =
       let b = head-parts s t p e pe es c h in

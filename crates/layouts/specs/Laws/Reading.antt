@@ -13,8 +13,8 @@ use borrow.Author.Tests.{eq-eqb}
 use Rattle.terms.specs.Numbers.{left-over}
 use Rattle.terms.specs.Answer.{Res, good, Got, got, pick, bind, need, enough, same, finish}
 use Rattle.terms.specs.Laws.Answer.{clash, good-inj, test, and-l, and-r, is-true, is-false, pick-yes, pick-no, by-bind, by-need, same-eq, same-refl}
-use Rattle.heads.specs.Head.{Cut, cutOff, tlv, octets, before}
-use Rattle.heads.specs.Laws.Head.{unspelled, head-tlv, head-back, length-tlv}
+use Rattle.heads.specs.Head.{forms, Cut, cutOff, tlv, octets, before}
+use Rattle.heads.specs.Laws.Head.{head-tlv, head-back, length-tlv, unspelled}
 use Rattle.contents.specs.Content.{Check, fine, wrong, ask, judge, passes}
 use Rattle.contents.specs.Leaves.{Leaf, ruleOf, boolean, knownRule, only}
 use Rattle.contents.specs.Rules.{yes-byte, booleanRule, also, onlyRule}
@@ -236,10 +236,10 @@ module _ {A B : Type 0} (f : List ℕ → ℕ → Res (Got A)) (e : A → List �
 
 pub starts : (i : Item) → Starts (tagOf i) (λ v. encode i v)
 unfolding encode encodeLeaf tlv
-starts (leaf l) v = (octets (length (l .front ++ v)) ++ (l .front ++ v), refl)
-starts (node t r) v = (octets (length (encodes r v)) ++ encodes r v, refl)
-starts (list t e n f i) vs = (octets (length (each (λ v. encode i v) vs)) ++ each (λ v. encode i v) vs, refl)
-starts (wrap t i) v = (octets (length (encode i v)) ++ encode i v, refl)
+starts (leaf l) v = (octets forms (length (l .front ++ v)) ++ (l .front ++ v), refl)
+starts (node t r) v = (octets forms (length (encodes r v)) ++ encodes r v, refl)
+starts (list t e n f i) vs = (octets forms (length (each (λ v. encode i v) vs)) ++ each (λ v. encode i v) vs, refl)
+starts (wrap t i) v = (octets forms (length (encode i v)) ++ encode i v, refl)
 
 -- a value of the item does not begin with another tag
 begins-other : (t : ℕ) (i : Item) (v : Value i) (w : List ℕ) → T (not (eqb (tagOf i) t)) → begins t (encode i v ++ w) ≡ false

@@ -13,7 +13,7 @@ use borrow.Author.Tests.{lt-ltb, le-ltb}
 use Rattle.terms.specs.Numbers.{left-over, bad-bits, no-item, too-many-items}
 use Rattle.terms.specs.Answer.{Res, good, fault, Got, got, pick, bind, need, enough, same, finish}
 use Rattle.terms.specs.Laws.Answer.{good-inj, test, is-true, is-false, by-bind, need-eq}
-use Rattle.heads.specs.Head.{Cut, cutOff, head, outermost, tlv, octets}
+use Rattle.heads.specs.Head.{forms, Cut, cutOff, head, outermost, tlv, octets}
 use Rattle.heads.specs.Scan.{seen, headAt, outermostAt}
 use Rattle.heads.specs.Laws.Head.{head-back, outermost-back}
 use Rattle.heads.specs.declared.Seen.{Seen}
@@ -130,11 +130,11 @@ module _ (s : List ℕ) where
   abbrev Parts : ℕ → ℕ → Cut → Type 0
   Parts p e c = (c .content ≡ slice (c .start) (next c) s) × (c .rest ≡ slice (next c) e s) × (p ≤ c .start) × (next c ≤ e)
 
-  pub head-parts : (t p e : ℕ) → p ≤ e → e ≤ length s → (c : Cut) → head t (slice p e s) p ≡ good c → Parts p e c
+  pub head-parts : (t p e : ℕ) → p ≤ e → e ≤ length s → (c : Cut) → head forms t (slice p e s) p ≡ good c → Parts p e c
   unfolding tlv
   head-parts t p e pe es c h =
       let b = head-back t (slice p e s) p c h in
-      let a : List ℕ = t ∷ octets (length (c .content)) in
+      let a : List ℕ = t ∷ octets forms (length (c .content)) in
       let o = onward p e s a (c .content ++ c .rest) (c .start) pe es (b .0 ∙ append-assoc a (c .content) (c .rest)) (b .1 ∙ omega arith) in
       let o′ = onward (c .start) e s (c .content) (c .rest) (next c) (o .2) es (sym (o .0)) refl in
       (front-slice (c .start) e s (c .content) (c .rest) (o .2) es (sym (o .0)), o′ .0, o .1, o′ .2)
@@ -269,7 +269,7 @@ module _ (s : List ℕ) where
   -- ---- records
 
   module _ (most : ℕ) (r : Members) (p e : ℕ) (pe : p ≤ e) (es : e ≤ length s) where
-    outermost-parts : (c : Cut) → outermost most sequence (slice p e s) p ≡ good c → Parts p e c
+    outermost-parts : (c : Cut) → outermost forms most sequence (slice p e s) p ≡ good c → Parts p e c
     outermost-parts c h = head-parts sequence p e pe es c (outermost-back most sequence (slice p e s) p c h .0)
 
     pub record-read : recordScan most r s p e ≡ step (recordAt most r (slice p e s) p)

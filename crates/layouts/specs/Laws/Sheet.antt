@@ -14,7 +14,7 @@ use Rattle.terms.specs.Answer.{Res, good, Got, got, pick, bind, need, have, eno
 use Rattle.terms.specs.Laws.Answer.{good-inj, test, and-l, and-r, pick-yes, pick-no, by-bind, by-need, by-have, same-eq}
 use Rattle.terms.specs.Laws.Digits.{leading-there, leading-back, length-digits}
 use Rattle.heads.specs.Head.{Cut, cutOff, tlv}
-use Rattle.heads.specs.Laws.Head.{unspelled, length-tlv, octets-some}
+use Rattle.heads.specs.Laws.Head.{length-tlv, octets-some, unspelled}
 use Rattle.contents.specs.Content.{fine, judge}
 use Rattle.contents.specs.Leaves.{Leaf, ruleOf, sectionOf}
 use Rattle.contents.specs.Laws.Leaves.{by-judge, value-there, value-back, section-near}

@@ -10,8 +10,8 @@ use borrow.Author.Tests.{lt-leb}
 use Rattle.terms.specs.Numbers.{done, left-over, bad-sheet, no-room}
 use Rattle.terms.specs.Answer.{Res, good, fault, Got, got, bind, need, same, finish, Told, told-one, refusal, answered}
 use Rattle.terms.specs.Laws.Answer.{good-inj, and-r, by-bind, need-eq}
-use Rattle.heads.specs.Head.{Cut, tlv, before, outermost}
-use Rattle.heads.specs.Laws.Head.{unspelled, length-tlv, head-back, outermost-tlv, outermost-back}
+use Rattle.heads.specs.Head.{forms, Cut, tlv, before, outermost}
+use Rattle.heads.specs.Laws.Head.{length-tlv, head-back, outermost-tlv, outermost-back, unspelled}
 use Rattle.heads.specs.Laws.More.{moreCut, outermost-more}
 use Rattle.layouts.specs.Layout.{Members, node, Values, Oks, encode, encodes}
 use Rattle.layouts.specs.Reading.{next, reads}
@@ -68,16 +68,16 @@ module _ (most : ℕ) (r : Members) where
   -- bytes after the first that no record has room for change nothing
   pub accept-more : (w z : List ℕ) → most < length w → 4 ≤ length w → accept most r (w ++ z) ≡ accept most r w
   unfolding accept recordAt bind
-  accept-more w z m h = rw (outermost-more most sequence w z 0 m h) (go (outermost most sequence w 0) refl)
+  accept-more w z m h = rw (outermost-more most sequence w z 0 m h) (go (outermost forms most sequence w 0) refl)
     where
-      left : (c : Cut) → outermost most sequence w 0 ≡ good c → (v : Values r) → finish left-over (got v (c .rest ++ z) (next c)) ≡ finish left-over (got v (c .rest) (next c))
+      left : (c : Cut) → outermost forms most sequence w 0 ≡ good c → (v : Values r) → finish left-over (got v (c .rest ++ z) (next c)) ≡ finish left-over (got v (c .rest) (next c))
       left c e v =
           let o = outermost-back most sequence w 0 c e in
           let l : length w ≡ length (tlv sequence (c .content)) + length (c .rest) = ap length (head-back sequence w 0 c (o .0) .0) ∙ length-append (tlv sequence (c .content)) (c .rest) in
           let n = o .1 in
           some-left left-over v (c .rest) z (next c) (omega arith)
 
-      go : (x : Res Cut) → outermost most sequence w 0 ≡ x
+      go : (x : Res Cut) → outermost forms most sequence w 0 ≡ x
           → (bind {A = Got (Values r)} (bind (moreCut z x) λ c. bind (reads r (c .content) (c .start)) λ v. good (got v (c .rest) (next c))) λ a. finish left-over a)
           ≡ (bind {A = Got (Values r)} (bind x λ c. bind (reads r (c .content) (c .start)) λ v. good (got v (c .rest) (next c))) λ a. finish left-over a)
       go (good c) e = read (reads r (c .content) (c .start))

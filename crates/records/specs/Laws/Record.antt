@@ -13,8 +13,8 @@ use Rattle.terms.specs.Numbers.{largest-record}
 use Rattle.terms.specs.Answer.{Res, good, pick, enough, same}
 use Rattle.terms.specs.Laws.Answer.{good-inj, and-l, and-r}
 use Rattle.terms.specs.Digits.{numberFrom}
-use Rattle.heads.specs.Head.{Cut, cutOff, tlv, before, head}
-use Rattle.heads.specs.Laws.Head.{unspelled, length-tlv, head-tlv}
+use Rattle.heads.specs.Head.{forms, Cut, cutOff, tlv, before, head}
+use Rattle.heads.specs.Laws.Head.{length-tlv, head-tlv, unspelled}
 use Rattle.contents.specs.Content.{ask, passes}
 use Rattle.contents.specs.Integer.{sign, shortest, wellFormed, value, turned}
 use Rattle.contents.specs.Text.{within, starts, follows, textFrom}
@@ -99,6 +99,6 @@ no-beginning r q w x u v e g rest h =
     let m : tlv sequence (encodes r u) ++ rest ≡ tlv sequence (encodes q v) ++ [] = ap (λ (y : List ℕ). y ++ rest) (sym (a .0)) ∙ h ∙ b .0 ∙ sym (append-nil (recordOf q v)) in
     let c : _≡_ {A = Res Cut} (good (cutOff (encodes r u) rest (0 + before (length (encodes r u))))) (good (cutOff (encodes q v) [] (0 + before (length (encodes q v))))) =
     sym (head-tlv sequence (encodes r u) rest 0 (omega (arith, a .2, ap length (a .0), length-tlv sequence (encodes r u))))
-    ∙ ap (λ (y : List ℕ). head sequence y 0) m
+    ∙ ap (λ (y : List ℕ). head forms sequence y 0) m
     ∙ head-tlv sequence (encodes q v) [] 0 (omega (arith, b .2, ap length (b .0), length-tlv sequence (encodes q v))) in
     ap (λ (y : Cut). y .rest) (good-inj c)

@@ -10,7 +10,7 @@ use lib.Dec.{T, ltb, lt→ltb}
 use Rattle.terms.specs.Numbers.{largest-record, done, run-end}
 use Rattle.terms.specs.Answer.{Res, good, fault, Got, got, bind, Told, told-two, told-none}
 use Rattle.terms.specs.Laws.Answer.{never, pick-yes, by-bind}
-use Rattle.heads.specs.Head.{tlv, octets}
+use Rattle.heads.specs.Head.{forms, tlv, octets}
 use Rattle.heads.specs.Laws.Head.{length-tlv}
 use Rattle.layouts.specs.Layout.{Members, Values, All, each, encodes}
 use Rattle.layouts.specs.Whole.{sequence, recordOf, Allowed, recordAt}
@@ -29,7 +29,7 @@ module _ (r : Members) where
 
   record-cons : (v : Values r) → (x : ℕ) × (y : List ℕ) × (recordOf r v ≡ x ∷ y)
   unfolding tlv
-  record-cons v = (sequence, octets (length (encodes r v)) ++ encodes r v, refl)
+  record-cons v = (sequence, octets forms (length (encodes r v)) ++ encodes r v, refl)
 
   run-some : (vs : List (Values r)) → length vs ≤ length (runOf r vs)
   unfolding each
