@@ -175,5 +175,5 @@ small-sheets = agreed writings tt
 -- ---- the table of places: four numbers under each of 43 names, then the index that is wanted
 
 places : under Header (0 ∷ 1 ∷ 2 ∷ 3 ∷ 4 ∷ 5 ∷ 6 ∷ 7 ∷ []) ++ slot Stamp ∷ wanted (replicate 172 0 ++ 9 ∷ []) ∷ table-size ∷ [] ≡ 4 ∷ 5 ∷ 6 ∷ 7 ∷ 168 ∷ 9 ∷ 173 ∷ []
-unfolding under slot wanted code
+unfolding under slot wanted
 places = refl

@@ -6,7 +6,7 @@ use Prim.Native.Nat.{ℕ, suc, _+_}
 use mathlib.Core.Bool.{Bool, true, false, _&&_}
 use mathlib.Core.Option.{Option, none, some}
 use mathlib.Core.List.{List, [], _∷_, _++_}
-use lib.ListN.{length, take, drop}
+use lib.ListN.{length}
 use lib.Dec.{eqb}
 use Rattle.terms.specs.declared.Field.{Field}
 use Rattle.terms.specs.Names.{sameName}
@@ -82,7 +82,7 @@ fields r v = runFields r 0 v (before (length (encodes r v)))
 
 -- the field's bytes stand at its place in a record
 abbrev pub Stands : List ℕ → Entry → Type 0
-Stands w x = take (length (x .bytes)) (drop (x .place) w) ≡ x .bytes
+Stands w x = (before : List ℕ) × (after : List ℕ) × (w ≡ before ++ (x .bytes ++ after)) × (length before ≡ x .place)
 
 -- ---- asking
 

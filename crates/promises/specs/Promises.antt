@@ -27,7 +27,7 @@ use Rattle.layouts.specs.Places.{under, numbersOf, Placed}
 use Rattle.layouts.specs.Laws.Reading.{clear, clears, spare}
 use Rattle.layouts.specs.Laws.Whole.{Wrote, Kept}
 use Rattle.layouts.specs.Laws.Whole as Whole
-use Rattle.layouts.specs.Laws.Fields.{fields-stand, first-sought, first-holds}
+use Rattle.layouts.specs.Laws.Fields.{fields-stand, stands-cut, first-sought, first-holds}
 use Rattle.records.specs.Record.{sealInformation, seal, signedPart, signature}
 use Rattle.records.specs.Handing.{readRecord, recordAnswer, fieldsIn, fillAnswer, fillAfter, writeAnswer, writeAfter, isAmong, toldPlace, partNames, fieldAnswer, isListed, matchAnswer, integerNames, valueAnswer, isOwner, toldCritical, criticalAnswer, listNames, countAnswer, signedBytes, informationOf, signedPartOf, sealOf}
 use Rattle.records.specs.Laws.Record as Record
@@ -98,12 +98,10 @@ module _ (r : Members) (k : Clear r) where
 
     -- "handed out as a part of the lent record, .. in a list by index, absent past the last"
     pub part-is-the-field : (f : Field) (i : ℕ) → Told-of (isAmong partNames f i) toldPlace (fieldAnswer r f i w)
-    unfolding fieldAnswer
     part-is-the-field f i = Handing.told-first r w v e (fields-stand-there w v e) (isAmong partNames f i) toldPlace
 
     -- "given record and digest, the first equal entry in the record"
     pub match-is-the-first-equal : (given : List ℕ) → Told-of (isListed given) toldPlace (matchAnswer r given w)
-    unfolding matchAnswer
     match-is-the-first-equal given = Handing.told-first r w v e (fields-stand-there w v e) (isListed given) toldPlace
 
     pub equal-is-the-given : (given : List ℕ) (x : Entry) → T (isListed given x) → x .bytes ≡ given
@@ -111,16 +109,13 @@ module _ (r : Members) (k : Clear r) where
 
     -- "Integers and critical come as values."
     pub value-is-the-field's : (f : Field) → Told-of (isAmong integerNames f 0) (λ x. gives done (value (x .bytes) ∷ [])) (valueAnswer r f w)
-    unfolding valueAnswer
     value-is-the-field's f = Handing.told-first r w v e (fields-stand-there w v e) (isAmong integerNames f 0) _
 
     pub critical-is-the-item's : (f : Field) (i : ℕ) → Told-of (isOwner f i) (toldCritical f i (fields r v)) (criticalAnswer r f i w)
-    unfolding criticalAnswer
     critical-is-the-item's f i = rw (Handing.fields-in r w v e) (Handing.told-first r w v e (fields-stand-there w v e) (isOwner f i) (toldCritical f i (fields r v)))
 
     -- "Absent and present-with-no-items are different field values."
     pub count-is-the-list's : (f : Field) → Told-of (isAmong listNames f 0) (λ x. told-one done (x .items)) (countAnswer r f w)
-    unfolding countAnswer
     count-is-the-list's f = Handing.told-first r w v e (fields-stand-there w v e) (isAmong listNames f 0) _
 
   -- a refused record answers every question with its refusal
@@ -133,7 +128,7 @@ module _ (r : Members) (k : Clear r) where
       → take (getD (under f d) 2 0) (drop (getD (under f d) 1 0) w) ≡ x .bytes
   placed-stands-there w v e i d h f x q =
       let u : under f d ≡ numbersOf (some x) = h .1 f ∙ ap (λ (y : List Entry). numbersOf (first (isField f i) y)) (Handing.fields-in r w v e) ∙ ap numbersOf q in
-      rw u (first-holds (Stands w) (isField f i) (fields r v) x (fields-stand-there w v e) (rw q at (first-sought (isField f i) (fields r v))))
+      rw u (stands-cut w x (first-holds (Stands w) (isField f i) (fields r v) x (fields-stand-there w v e) (rw q at (first-sought (isField f i) (fields r v)))))
 
   -- ---- sheets
 

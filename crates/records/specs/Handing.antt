@@ -14,6 +14,8 @@ use Rattle.layouts.specs.Layout.{Members, Values}
 use Rattle.layouts.specs.Whole.{accept, fillSheet, writeRecord, stored}
 use Rattle.layouts.specs.Fields.{Entry, fields, isField, first, isThere, bytesIn}
 use Rattle.records.specs.Record.{sealInformation, seal, signedPart, signature}
+use Rattle.records.specs.declared.Record.{Record}
+use Rattle.records.specs.declared.Record.the-variants.{Seal, Signature}
 use Rattle.records.specs.declared.Part.{Part}
 use Rattle.records.specs.declared.Part.the-variants.{There, Absent as NoPart, Refused as PartRefused}
 use Rattle.records.specs.declared.Number.{Number}
@@ -24,6 +26,11 @@ use Rattle.records.specs.declared.Items.{Items}
 use Rattle.records.specs.declared.Items.the-variants.{Count, Absent as NoItems, Refused as ItemsRefused}
 
 -- ---- whole records
+
+-- the layout of each of the two
+abbrev pub layoutOf : Record → Members
+layoutOf Seal = seal
+layoutOf Signature = signature
 
 -- what is told of a record of at most `most` bytes: "ACCEPTED and its length, or REFUSED, number, place"
 abbrev pub toldRecord : ℕ → Members → List ℕ → Told
@@ -80,11 +87,11 @@ abbrev pub toldPlace : Entry → Told
 toldPlace x = told-two done (x .place) (length (x .bytes))
 
 -- a field, by one of some names and its index
-unfoldable pub isOneOf : List Field → Field → Bool
+abbrev pub isOneOf : List Field → Field → Bool
 isOneOf [] f = false
 isOneOf (x ∷ xs) f = sameName x f || isOneOf xs f
 
-unfoldable pub isAmong : List Field → Field → ℕ → Entry → Bool
+abbrev pub isAmong : List Field → Field → ℕ → Entry → Bool
 isAmong names f k x = isOneOf names f && isField f k x
 
 -- "the bytes its section has, or the signed bytes": the fields that are handed out as parts. Integers and critical come as values.
@@ -98,7 +105,7 @@ partNames =
 abbrev pub fieldIn : Members → Field → ℕ → List ℕ → Res (Option Entry)
 fieldIn r f k w = seek r (isAmong partNames f k) w
 
-unfoldable pub fieldAnswer : Members → Field → ℕ → List ℕ → Told
+abbrev pub fieldAnswer : Members → Field → ℕ → List ℕ → Told
 fieldAnswer r f k w = tell toldPlace (fieldIn r f k w)
 
 -- "the first equal entry in the record. For kind 1 the given bytes are compared with the certificates; for kind 2 the part is the digest."
@@ -108,14 +115,14 @@ isListed given x = isOneOf (ListedCertificate ∷ ListedDigest ∷ []) (x .name)
 abbrev pub matchIn : Members → List ℕ → List ℕ → Res (Option Entry)
 matchIn r given w = seek r (isListed given) w
 
-unfoldable pub matchAnswer : Members → List ℕ → List ℕ → Told
+abbrev pub matchAnswer : Members → List ℕ → List ℕ → Told
 matchAnswer r given w = tell toldPlace (matchIn r given w)
 
 -- "Integers and critical come as values."
 abbrev pub integerNames : List Field
 integerNames = SealType ∷ ListKind ∷ Width ∷ Height ∷ []
 
-unfoldable pub valueAnswer : Members → Field → List ℕ → Told
+abbrev pub valueAnswer : Members → Field → List ℕ → Told
 valueAnswer r f w = tell (λ x. gives done (value (x .bytes) ∷ [])) (seek r (isAmong integerNames f 0) w)
 
 -- the custom item that a critical belongs to
@@ -126,14 +133,14 @@ isOwner f k x = (sameName SealCustomCritical f && isField SealCustomItem k x) ||
 abbrev pub toldCritical : Field → ℕ → List Entry → Entry → Told
 toldCritical f k xs x = told-one done (bit (isThere (first (isField f k) xs)))
 
-unfoldable pub criticalAnswer : Members → Field → ℕ → List ℕ → Told
+abbrev pub criticalAnswer : Members → Field → ℕ → List ℕ → Told
 criticalAnswer r f k w = tell (toldCritical f k (fieldsIn r w)) (seek r (isOwner f k) w)
 
 -- "Absent and present-with-no-items are different field values."
 abbrev pub listNames : List Field
 listNames = CertificateList ∷ SealCustomData ∷ SignedCustomData ∷ []
 
-unfoldable pub countAnswer : Members → Field → List ℕ → Told
+abbrev pub countAnswer : Members → Field → List ℕ → Told
 countAnswer r f w = tell (λ x. told-one done (x .items)) (seek r (isAmong listNames f 0) w)
 
 -- ---- signed bytes

@@ -1,3 +1,9 @@
+// The two records.
+pub enum Record {
+    Seal,
+    Signature,
+}
+
 // Where a field or a matching entry lies in the lent record, start and length; or why there is none.
 pub enum Part {
     There { start: usize, length: usize },

@@ -8,7 +8,7 @@ use Rattle.terms.specs.declared.Field.{Field}
 use Rattle.terms.specs.declared.Field.the-variants.{SealInformation, Header, Vendor, SealId, Property, SealType, SealName, ListKind, CertificateList, ListedCertificate, ListedEntry, ListedType, ListedDigest, Created, Start, End, Picture, PictureType, PictureData, Width, Height, SealCustomData, SealCustomItem, SealCustomId, SealCustomCritical, SealCustomValue, MakerCertificate, SealAlgorithm, SealSignedValue, SignedPart, Seal, SigningTime, OriginalDigest, PropertyText, SignedCustomData, SignedCustomItem, SignedCustomId, SignedCustomCritical, SignedCustomValue, SignerCertificate, SignatureAlgorithm, SignatureValue, Stamp}
 
 -- a number for each name
-unfoldable pub code : Field → ℕ
+abbrev pub code : Field → ℕ
 code SealInformation = 0
 code Header = 1
 code Vendor = 2
@@ -65,6 +65,5 @@ names = SealInformation ∷ Header ∷ Vendor ∷ SealId ∷ Property ∷ SealTy
 abbrev pub nameOf : ℕ → Field
 nameOf i = getD names i SealInformation
 
-unfoldable pub sameName : Field → Field → Bool
-unfolding code
+abbrev pub sameName : Field → Field → Bool
 sameName f g = eqb (code f) (code g)

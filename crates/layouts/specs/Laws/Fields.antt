@@ -1,7 +1,7 @@
 -- Each field's bytes stand at its place in the record: for every layout. Assumes nothing.
 use mathlib.Core.Path.{_≡_, refl, sym, ap, _∙_, subst}
 use mathlib.Core.Logic.{inl, inr}
-use Prim.Native.Nat.{ℕ, suc, _+_}
+use Prim.Native.Nat.{ℕ, suc, _+_, _≤_}
 use native.Mathlib.Omega.{arith}
 use mathlib.Core.Bool.{Bool, true, false, not}
 use mathlib.Core.Option.{Option, none, some}
@@ -21,9 +21,14 @@ use Rattle.layouts.specs.Fields.{Entry, entry, startOf, eachFields, opti
 use Rattle.layouts.specs.Sheet.{section, sheet}
 use Rattle.layouts.specs.Whole.{sequence, recordOf}
 
--- bytes that stand after others
-stands-after : (s p x z : List ℕ) (b : ℕ) → s ≡ p ++ (x ++ z) → length p ≡ b → take (length x) (drop b s) ≡ x
-stands-after s p x z b e h = ap (λ (y : List ℕ). take (length x) (drop b y)) e ∙ ap (take (length x)) (drop-at p (x ++ z) b h) ∙ take-at x z (length x) refl
+-- what stands in a record ends in it
+pub stands-within : (w : List ℕ) (x : Entry) → Stands w x → x .place + length (x .bytes) ≤ length w
+stands-within w x (p, z, e, h) = let l = ap length e ∙ length-append p (x .bytes ++ z) ∙ ap (λ (n : ℕ). length p + n) (length-append (x .bytes) z) in omega arith
+
+-- and is had by cutting it out
+pub stands-cut : (w : List ℕ) (x : Entry) → Stands w x → take (length (x .bytes)) (drop (x .place) w) ≡ x .bytes
+stands-cut w x (p, z, e, h) =
+    ap (λ (y : List ℕ). take (length (x .bytes)) (drop (x .place) y)) e ∙ ap (take (length (x .bytes))) (drop-at p (x .bytes ++ z) (x .place) h) ∙ take-at (x .bytes) z (length (x .bytes)) refl
 
 all-append : {A : Type 0} (P : A → Type 0) (xs ys : List A) → All P xs → All P ys → All P (xs ++ ys)
 all-append P [] ys h k = k
@@ -48,14 +53,14 @@ past s p x y z e =
     (q, q ∙ sym (append-assoc p x (y ++ z)), length-append p x)
 
 -- a primitive item's value
-leaf-stands : (s p z : List ℕ) (l : Leaf) (v : List ℕ) → s ≡ p ++ (encodeLeaf l v ++ z) → take (length v) (drop (startOf l v (length p)) s) ≡ v
+leaf-stands : (s p z : List ℕ) (f : Field) (k : ℕ) (l : Leaf) (v : List ℕ) → s ≡ p ++ (encodeLeaf l v ++ z) → Stands s (entry f k (startOf l v (length p)) v)
 unfolding encodeLeaf
-leaf-stands s p z l v e =
-    let f = l .front in
-    let n = inside s p z (l .tag) (f ++ v) e in
-    let q : List ℕ = p ++ (l .tag ∷ octets forms (length (f ++ v))) in
-    let m = past s q f v z (n .0) in
-    stands-after s (q ++ f) v z (startOf l v (length p)) (m .1) (m .2 ∙ ap (λ (k : ℕ). k + length f) (n .1))
+leaf-stands s p z f k l v e =
+    let d = l .front in
+    let n = inside s p z (l .tag) (d ++ v) e in
+    let q : List ℕ = p ++ (l .tag ∷ octets forms (length (d ++ v))) in
+    let m = past s q d v z (n .0) in
+    (q ++ d, z, m .1, m .2 ∙ ap (λ (k : ℕ). k + length d) (n .1))
 
 module _ {A : Type 0} (s : List ℕ) (e : A → List ℕ) where
   each-placed : (f : ℕ → A → ℕ → List Entry) → ((j : ℕ) → Placed s e (λ a b. f j a b)) → (k : ℕ) → Placed s (each e) (λ xs b. eachFields f e k xs b)
@@ -80,7 +85,7 @@ either-placed s e d f g h k (inr b) p z q = k b p z q
 flag-placed : (s : List ℕ) (f : Field) (k : ℕ) → Placed s critical (λ v b. flagFields f k v b)
 unfolding critical flagFields
 flag-placed s f k true p z q =
-    (leaf-stands s p z boolean yes-byte q, tt)
+    (leaf-stands s p z f k boolean yes-byte q, tt)
 flag-placed s f k false p z q = tt
 
 module _ (s : List ℕ) where
@@ -88,15 +93,15 @@ module _ (s : List ℕ) where
     unfolding encode itemFields
 
     item-placed : (i : Item) (f : Field) (k : ℕ) → Placed s (λ v. encode i v) (λ v b. itemFields i f k v b)
-    item-placed (leaf l) f k v p z q = (leaf-stands s p z l v q, tt)
+    item-placed (leaf l) f k v p z q = (leaf-stands s p z f k l v q, tt)
     item-placed (node t r) f k v p z q =
         let n = inside s p z t (encodes r v) q in
-        (stands-after s p (tlv t (encodes r v)) z (length p) q refl, rw (n .1) at (run-placed r k v (p ++ (t ∷ octets forms (length (encodes r v)))) z (n .0)))
+        ((p, z, q, refl), rw (n .1) at (run-placed r k v (p ++ (t ∷ octets forms (length (encodes r v)))) z (n .0)))
     item-placed (list t e m g i) f k vs p z q =
         let c : List ℕ = each (λ v. encode i v) vs in
         let n = inside s p z t c q in
         let u = each-placed s (λ v. encode i v) (λ j v b. itemFields i g j v b) (λ j v p z q. item-placed i g j v p z q) 0 vs (p ++ (t ∷ octets forms (length c))) z (n .0) in
-        all-append (Stands s) (eachFields (λ j v b. itemFields i g j v b) (λ v. encode i v) 0 vs (length p + before (length c))) _ (rw (n .1) at u) (stands-after s p (tlv t c) z (length p) q refl, tt)
+        all-append (Stands s) (eachFields (λ j v b. itemFields i g j v b) (λ v. encode i v) 0 vs (length p + before (length c))) _ (rw (n .1) at u) ((p, z, q, refl), tt)
     item-placed (wrap t i) f k v p z q =
         let n = inside s p z t (encode i v) q in
         rw (n .1) at (item-placed i f k v (p ++ (t ∷ octets forms (length (encode i v)))) z (n .0))
@@ -118,7 +123,7 @@ module _ (s : List ℕ) where
         let y : List ℕ = either (λ x. encode i x) (λ x. encode j x) (v .1) in
         let n = past s p x y z q in
         let u = either-placed s (λ x. encode i x) (λ x. encode j x) (λ x b. itemFields i g k x b) (λ x b. itemFields j g k x b) (λ x p z q. item-placed i g k x p z q) (λ x p z q. item-placed j g k x p z q) (v .1) (p ++ x) z (n .1) in
-        (leaf-stands s p (y ++ z) l (v .0) (n .0), rw (n .2) at u)
+        (leaf-stands s p (y ++ z) f k l (v .0) (n .0), rw (n .2) at u)
 
 -- the fields of a record stand in it
 pub fields-stand : (r : Members) (v : Values r) → All (Stands (recordOf r v)) (fields r v)

@@ -130,13 +130,13 @@ module _ (f : Field) where
 
   -- a field that is asked for has the name's number and the index
   field-is : (k : ℕ) (x : Entry) → T (isField f k x) → (code f ≡ code (x .name)) × (x .index ≡ k)
-  unfolding isField sameName
+  unfolding isField
   field-is k x t =
       (eqb→eq (code f) (code (x .name)) (and-l (eqb (code f) (code (x .name))) _ t), sym (eqb→eq k (x .index) (and-r (eqb (code f) (code (x .name))) _ t)))
 
   -- and one that has them is asked for
   is-field : (k : ℕ) (x : Entry) → code f ≡ code (x .name) → x .index ≡ k → T (isField f k x)
-  unfolding isField sameName
+  unfolding isField
   is-field k x e i = rw (eq-eqb (code f) (code (x .name)) e, eq-eqb k (x .index) (sym i)) tt
 
   -- ---- a list of fields

@@ -38,5 +38,5 @@ listed-is given x t = sym (same-eq given (x .bytes) (and-r (isOneOf (ListedCerti
 
 pub refused-told : (r : Members) (w : List ℕ) (n p : ℕ) → readRecord r w ≡ fault n p → (f : Field) (k : ℕ) (given : List ℕ)
     → (fieldAnswer r f k w ≡ refusal n p) × (matchAnswer r given w ≡ refusal n p) × (valueAnswer r f w ≡ refusal n p) × (criticalAnswer r f k w ≡ refusal n p) × (countAnswer r f w ≡ refusal n p)
-unfolding fieldAnswer matchAnswer valueAnswer criticalAnswer countAnswer seek bind
+unfolding seek bind
 refused-told r w n p e f k given = (rw e, rw e, rw e, rw e, rw e)

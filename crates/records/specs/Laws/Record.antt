@@ -50,11 +50,11 @@ sheet-begins v = (_, append-assoc (sheets seal (sealOf v)) _ _)
 -- ---- signed bytes
 
 pub signed-signature : (v : Values signature) → signedBytes SignedPart signature v ≡ recordOf signedPart (signedPartOf v)
-unfolding signedBytes bytesIn first isField sameName code fields itemFields pick
+unfolding signedBytes bytesIn first isField fields itemFields pick
 signed-signature v = refl
 
 pub signed-seal : (v : Values seal) → signedBytes SealInformation seal v ≡ recordOf sealInformation (informationOf v)
-unfolding signedBytes bytesIn first isField sameName code fields itemFields pick
+unfolding signedBytes bytesIn first isField fields itemFields pick
 signed-seal v = refl
 
 -- a record whose first member is a SEQUENCE: two accepted records with equal bytes there have equal values there

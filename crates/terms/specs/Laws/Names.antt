@@ -12,7 +12,6 @@ use Rattle.terms.specs.Names.{code, names-count, names, nameOf}
 use Rattle.terms.specs.Laws.Answer.{and-l, and-r}
 
 pub code-below : (f : Field) → code f < names-count
-unfolding code
 code-below SealInformation = lit< tt
 code-below Header = lit< tt
 code-below Vendor = lit< tt
@@ -70,5 +69,5 @@ in-order k (x ∷ xs) t zero h f = eqb→eq (code x) k (and-l (eqb (code x) k) (
 in-order k (x ∷ xs) t (suc i) h f = in-order (suc k) xs (and-r (eqb (code x) k) (inOrder (suc k) xs) t) i (omega arith) f ∙ omega arith
 
 pub code-name : (i : ℕ) → i < names-count → code (nameOf i) ≡ i
-unfolding inOrder code
+unfolding inOrder
 code-name i h = in-order 0 names tt i h SealInformation ∙ omega arith

@@ -1,0 +1,46 @@
+-- `fields::cut`: the part that is named, else nothing.
+use Rattle.fields.specs.Laws.{cut-there, cut-absent, cut-refused}
+use borrow.Author.Needs.{needs}
+use Rattle.fields.proofs.cut.Statement.{statement}
+use Rattle.fields.proofs.cut.Tie as tie
+
+enum-known-p : tie.Need-enum-known-p
+enum-known-p c = search needs
+
+span-requires : tie.Need-span-requires
+span-requires c κs = search needs
+
+enum-told : tie.Need-enum-told
+enum-told c = search needs
+
+slice-aggregate-result : tie.Need-slice-aggregate-result
+slice-aggregate-result c = search needs
+
+enum-told-2 : tie.Need-enum-told-2
+enum-told-2 c = search needs
+
+slice-aggregate-result-2 : tie.Need-slice-aggregate-result-2
+slice-aggregate-result-2 c = search needs
+
+returns : tie.Need-returns
+returns c = search (needs, cut-there)
+
+returns-2 : tie.Need-returns-2
+returns-2 c = search (needs, cut-absent)
+
+returns-3 : tie.Need-returns-3
+returns-3 c = search (needs, cut-refused)
+
+pub cut-spec : {M : Type 1} → statement M
+cut-spec =
+    tie.close
+    (tie.spec
+    enum-known-p
+    span-requires
+    enum-told
+    slice-aggregate-result
+    enum-told-2
+    slice-aggregate-result-2
+    returns
+    returns-2
+    returns-3)

@@ -1,0 +1,172 @@
+-- A field of a record by the table of places, and the part that is cut out of it. Assumes nothing.
+use mathlib.Core.Path.{_≡_, refl, sym, ap, _∙_, subst}
+use Prim.Native.Nat.{ℕ, _+_, _-_, _≤_, _<_}
+use native.Mathlib.Omega.{arith}
+use mathlib.Core.Bool.{Bool, true, false, not}
+use mathlib.Core.Option.{Option, none, some}
+use mathlib.Core.List.{List, [], _∷_}
+use lib.ListN.{length, getD, take, drop}
+use lib.Dec.{eqb, leb}
+use borrow.Author.Tests.{le-leb, lt-leb}
+use denote.Ref.{RefT}
+use Rattle.terms.specs.declared.Field.{Field}
+use Rattle.terms.specs.Numbers.{largest-record}
+use Rattle.terms.specs.Answer.{Res, good, fault, bind, pick, answered}
+use Rattle.terms.specs.Laws.Answer.{never, good-inj}
+use Rattle.layouts.specs.Layout.{Members, Values, All}
+use Rattle.layouts.specs.Fields.{Entry, fields, isField, first, Stands}
+use Rattle.layouts.specs.Laws.Fields.{Sought, fields-stand, stands-within, first-sought, first-holds}
+use Rattle.layouts.specs.Places.{slot, under, numbersOf, Placed}
+use Rattle.layouts.specs.Whole.{accept, recordOf, toldOutcome}
+use Rattle.layouts.specs.Laws.Whole.{accept-back}
+use Rattle.layouts.specs.declared.Outcome.{Outcome}
+use Rattle.layouts.specs.declared.Outcome.the-variants.{Length, Refused as Unread}
+use Rattle.records.specs.declared.Part.{Part}
+use Rattle.records.specs.declared.Part.the-variants.{There, Absent, Refused}
+use Rattle.records.specs.Handing.{toldRecord, readRecord, fieldsOf, seek, tell, toldPlace, toldPart, handedOut}
+use Rattle.records.specs.Part.{PartOf}
+use Rattle.fields.specs.Handed.{partOf, partUnder, spanOf, within}
+
+-- ---- a start and a length inside so many bytes
+
+module _ (n a l : ℕ) where
+  within-yes : a + l ≤ n → within n (a, l) ≡ (a, l)
+  unfolding within pick
+  within-yes h = rw (le-leb (a + l) n h)
+
+  within-no : n < a + l → within n (a, l) ≡ (0, 0)
+  unfolding within pick
+  within-no h = rw (lt-leb (a + l) n h)
+
+-- nothing, at the start, is inside
+within-nothing : (n : ℕ) → within n (0, 0) ≡ (0, 0)
+within-nothing n = within-yes n 0 0 (omega arith)
+
+-- ---- what is told of a field
+
+told-part : (e : Res (Option Entry)) → toldPart (partOf e) ≡ tell toldPlace e
+told-part (good (some x)) = refl
+told-part (good none) = refl
+told-part (fault n p) = refl
+
+-- an answer that tells so is no other
+pub told-is : (e : Res (Option Entry)) (y : Part) → toldPart y ≡ tell toldPlace e → y ≡ partOf e
+told-is (good (some x)) (There a n) h = cc
+told-is (good (some x)) Absent h = never (cc)
+told-is (good (some x)) (Refused n p) h = never (cc)
+told-is (good none) (There a n) h = never (cc)
+told-is (good none) Absent h = refl
+told-is (good none) (Refused n p) h = never (cc)
+told-is (fault m q) (There a n) h = never (cc)
+told-is (fault m q) Absent h = never (cc)
+told-is (fault m q) (Refused n p) h = cc
+
+-- a field that is sought lies in the record
+module _ (r : Members) (q : Entry → Bool) (w : List ℕ) where
+  sought-within : (x : Entry) → seek r q w ≡ good (some x) → x .place + length (x .bytes) ≤ length w
+  unfolding seek bind
+  sought-within x e = go (readRecord r w) refl e
+    where
+      go : (y : Res (Values r)) → readRecord r w ≡ y → (bind y λ v. good (first q (fields r v))) ≡ good (some x) → x .place + length (x .bytes) ≤ length w
+      go (good v) g h =
+          stands-within w x
+          (first-holds (Stands w) q (fields r v) x
+          (rw (← accept-back largest-record r w v g .0) at (fields-stand r v))
+          (rw (good-inj h) at (first-sought q (fields r v))))
+      go (fault n p) g h = never (cc)
+
+  -- so that the part that an answer names is the one that is handed out
+  span-handed : (e : Res (Option Entry)) → seek r q w ≡ e → within (length w) (spanOf (partOf e)) ≡ handedOut e
+  span-handed (good (some x)) h = within-yes (length w) (x .place) (length (x .bytes)) (sought-within x h)
+  span-handed (good none) h = within-nothing (length w)
+  span-handed (fault n p) h = within-nothing (length w)
+
+pub part-handed : (s z : RefT (List ℕ)) (r : Members) (q : Entry → Bool) (y : Part) → toldPart y ≡ tell toldPlace (seek r q (s .now)) → PartOf s z (within (length (s .now)) (spanOf y))
+    → PartOf s z (handedOut (seek r q (s .now)))
+part-handed s z r q y h k = subst (PartOf s z) (ap (λ (p : Part). within (length (s .now)) (spanOf p)) (told-is (seek r q (s .now)) y h) ∙ span-handed r q (s .now) (seek r q (s .now)) refl) k
+
+-- ---- a field by the table
+
+-- what stands under a name
+module _ (f : Field) (d : List ℕ) (b : Bool) (h : b ≡ not (eqb (getD d (slot f) 0) 0)) where
+  pub under-none : b ≡ false → Absent ≡ partUnder f d
+  unfolding partUnder pick
+  under-none g = go (eqb (getD d (slot f) 0) 0) (sym h ∙ g)
+    where
+      go : (t : Bool) → not t ≡ false → Absent ≡ pick t Absent (There (getD d (slot f + 1) 0) (getD d (slot f + 2) 0))
+      go true e = refl
+      go false e = never (cc)
+
+  pub under-there : (a l n : ℕ) → b ≡ true → a ∷ l ∷ n ∷ [] ≡ drop 1 (under f d) → There a l ≡ partUnder f d
+  unfolding partUnder pick under
+  under-there a l n g e = go (eqb (getD d (slot f) 0) 0) (sym h ∙ g)
+    where
+      go : (t : Bool) → not t ≡ true → There a l ≡ pick t Absent (There (getD d (slot f + 1) 0) (getD d (slot f + 2) 0))
+      go true e = never (cc)
+      go false e′ = rw (ap (λ (x : List ℕ). getD x 0 0) e, ap (λ (x : List ℕ). getD x 1 0) e)
+
+-- the numbers under a name are those of the field that is asked for
+numbers-part : (f : Field) (d : List ℕ) (o : Option Entry) → under f d ≡ numbersOf o → partUnder f d ≡ partOf (good o)
+unfolding partUnder pick under
+numbers-part f d o h = rw (ap (λ (x : List ℕ). getD x 0 0) h, ap (λ (x : List ℕ). getD x 1 0) h, ap (λ (x : List ℕ). getD x 2 0) h) (go o)
+  where
+    go : (o : Option Entry) → pick (eqb (getD (numbersOf o) 0 0) 0) Absent (There (getD (numbersOf o) 1 0) (getD (numbersOf o) 2 0)) ≡ partOf (good o)
+    go none = refl
+    go (some x) = refl
+
+-- what is sought in a record that was read
+module _ (r : Members) (w : List ℕ) (m : Members) (g : m ≡ r) (o : Outcome) (t : toldOutcome o ≡ toldRecord largest-record m w) where
+  read-refused : (n p : ℕ) → o ≡ Unread n p → readRecord r w ≡ fault n p
+  read-refused n p i = go (readRecord r w) (rw (g, i) at t)
+    where
+      go : (x : Res (Values r)) → toldOutcome (Unread n p) ≡ answered (λ v. length w) x → x ≡ fault n p
+      go (good v) e = never (cc)
+      go (fault n′ p′) e = cc
+
+  pub find-refused : (q : Entry → Bool) (n p : ℕ) → o ≡ Unread n p → toldPart (Refused n p) ≡ tell toldPlace (seek r q w)
+  unfolding seek bind
+  find-refused q n p i = rw (read-refused n p i)
+
+  pub find-under : (f : Field) (k l : ℕ) (d : List ℕ) (y : Part) → o ≡ Length l → Placed k (fieldsOf m (accept largest-record m w)) d → y ≡ partUnder f d
+      → toldPart y ≡ tell toldPlace (seek r (isField f k) w)
+  unfolding seek bind
+  find-under f k l d y i p e = ap toldPart (e ∙ go (readRecord r w) refl (rw (g, i) at t)) ∙ told-part (seek r (isField f k) w)
+    where
+      go : (x : Res (Values r)) → readRecord r w ≡ x → toldOutcome (Length l) ≡ answered (λ v. length w) x → partUnder f d ≡ partOf (bind x λ v. good (first (isField f k) (fields r v)))
+      go (good v) h e′ = numbers-part f d (first (isField f k) (fields r v)) (rw (g, h) at (p .1 f))
+      go (fault n q) h e′ = never (cc)
+
+-- ---- a part that is cut
+
+module _ (s z : RefT (List ℕ)) where
+  -- no bytes, at the start
+  nothing : z .ptr ≡ s .ptr → z .now ≡ [] → PartOf s z (0, 0)
+  nothing h k = record { lies = h ∙ ap (λ (n : ℕ). (s .ptr .0, n)) (omega arith); holds = k }
+
+  module _ (h : z .ptr ≡ s .ptr) (k : z .now ≡ []) where
+    -- nothing is cut where the start or the end lies past the record
+    pub cut-late : (a l : ℕ) → length (s .now) < a → PartOf s z (within (length (s .now)) (a, l))
+    cut-late a l g = rw (within-no (length (s .now)) a l (omega arith)) (nothing h k)
+
+    pub cut-long : (a l : ℕ) → a ≤ length (s .now) → length (s .now) - a < l → PartOf s z (within (length (s .now)) (a, l))
+    cut-long a l g g′ = rw (within-no (length (s .now)) a l (omega arith)) (nothing h k)
+
+    -- nor where an answer names no part
+    pub cut-absent : (p : Part) → p ≡ Absent → PartOf s z (within (length (s .now)) (spanOf p))
+    cut-absent p e = rw (e, within-nothing (length (s .now))) (nothing h k)
+
+    pub cut-refused : (p : Part) (m q : ℕ) → p ≡ Refused m q → PartOf s z (within (length (s .now)) (spanOf p))
+    cut-refused p m q e = rw (e, within-nothing (length (s .now))) (nothing h k)
+
+  module _ (a l : ℕ) where
+    -- what lies inside is cut
+    pub cut-inside : a ≤ length (s .now) → l ≤ length (s .now) - a → z .ptr ≡ (s .ptr .0, a + s .ptr .1) → z .now ≡ take (a + l - a) (drop a (s .now)) → PartOf s z (within (length (s .now)) (a, l))
+    cut-inside g g′ h k =
+        let e : a + l - a ≡ l = omega arith in
+        rw (within-yes (length (s .now)) a l (omega arith)) (record { lies = h ∙ ap (λ (n : ℕ). (s .ptr .0, n)) (omega arith); holds = rw e at k })
+
+    pub cut-there : (p : Part) → p ≡ There a l → PartOf s z (within (length (s .now)) (a, l)) → PartOf s z (within (length (s .now)) (spanOf p))
+    cut-there p e h = rw e h
+
+  pub cut-named : (y p : Part) → y ≡ p → PartOf s z (within (length (s .now)) (spanOf y)) → PartOf s z (within (length (s .now)) (spanOf p))
+  cut-named y p e h = rw e at h
