@@ -1,2 +1,3 @@
 pub mod Tag
+pub mod Around
 pub mod Scan

@@ -1,13 +1,15 @@
-// An item's head: its tag and its length, and where its content lies.
+// An item's head: its tag and its length, and where its content lies; and what stands before and behind an item.
 ghost use mathlib.Core.Path.{_≡_};
 ghost use Prim.Native.Nat.{_+_, _≤_, _<_};
 ghost use lib.ListN.{length};
 ghost use Rattle.items.specs.Scan.{tagByte, Tells, lengthAt, openingAt};
-ghost use Rattle.heads.specs.Scan.{headAt, outermostAt};
+ghost use Rattle.heads.specs.Scan.{headAt, outermostAt, pastOf, beginsAt, closeAt};
 ghost use Rattle.items.specs.Laws.Scan.{roomAt};
 use heads::Seen;
+use heads::Step;
 use terms::BAD_LENGTH;
 use terms::ITEM_MISSING;
+use terms::LEFT_OVER;
 use terms::OTHER_TAG;
 use terms::PAST_END;
 use terms::TOO_LARGE;
@@ -104,11 +106,11 @@ fn wide(b: u8) -> usize
 }
 
 // The length of the item whose tag stands at a position: its form, its header and its content by the byte after the tag.
-fn length_at(s: &[u8], at: usize, end: usize) -> Length
-    requires { ⌜ (at < end) × (end ≤ length (now s)) ⌝ }
-    ensures { λ r. ⌜ r ≡ lengthAt (now (s .entry)) at end ⌝ }
+fn length_at(s: &[u8], at: usize, stop: usize) -> Length
+    requires { ⌜ (at < stop) × (stop ≤ length (now s)) ⌝ }
+    ensures { λ r. ⌜ r ≡ lengthAt (now (s .entry)) at stop ⌝ }
 {
-    let left = end - at;
+    let left = stop - at;
     if left < 2 {
         return Length::Bad;
     }
@@ -149,11 +151,11 @@ fn length_at(s: &[u8], at: usize, end: usize) -> Length
 }
 
 // Tag and length of the item at a position: 1, 2 or 3.
-fn open(s: &[u8], tag: Tag, at: usize, end: usize) -> Opening
-    requires { ⌜ end ≤ length (now s) ⌝ }
-    ensures { λ r. ⌜ r ≡ openingAt (tagByte tag) (now (s .entry)) at end ⌝ }
+fn open(s: &[u8], tag: Tag, at: usize, stop: usize) -> Opening
+    requires { ⌜ stop ≤ length (now s) ⌝ }
+    ensures { λ r. ⌜ r ≡ openingAt (tagByte tag) (now (s .entry)) at stop ⌝ }
 {
-    if end <= at {
+    if stop <= at {
         return Opening::Refused(ITEM_MISSING, at);
     }
     let Tagged::Known(found) = tag_of(s[at]) else {
@@ -167,7 +169,7 @@ fn open(s: &[u8], tag: Tag, at: usize, end: usize) -> Opening
         header,
         content,
         shortest,
-    } = length_at(s, at, end)
+    } = length_at(s, at, stop)
     else {
         return Opening::Refused(BAD_LENGTH, at);
     };
@@ -178,12 +180,12 @@ fn open(s: &[u8], tag: Tag, at: usize, end: usize) -> Opening
 }
 
 // The content behind a header, if it ends by the encloser's end: 4.
-fn room(at: usize, header: usize, content: usize, end: usize) -> Seen
-    requires { ⌜ at + header ≤ end ⌝ }
-    ensures { λ r. ⌜ r ≡ roomAt at header content end ⌝ }
+fn room(at: usize, header: usize, content: usize, stop: usize) -> Seen
+    requires { ⌜ at + header ≤ stop ⌝ }
+    ensures { λ r. ⌜ r ≡ roomAt at header content stop ⌝ }
 {
     let start = at + header;
-    if end - start < content {
+    if stop - start < content {
         return Seen::Refused(PAST_END, at);
     }
     Seen::Item(start, start + content)
@@ -216,4 +218,37 @@ pub fn outermost(s: &[u8], most: usize, tag: Tag, at: usize, end: usize) -> Seen
         }
         Opening::Refused(number, place) => Seen::Refused(number, place),
     }
+}
+
+// Where what follows an item starts, or its refusal.
+pub fn past(x: Seen) -> Step
+    ensures { λ r. ⌜ r ≡ pastOf x ⌝ }
+{
+    match x {
+        Seen::Item(_, z) => Step::Next(z),
+        Seen::Refused(number, place) => Step::Refused(number, place),
+    }
+}
+
+// Whether an item of a tag begins here: its tag alone makes an optional item present.
+pub fn begins(s: &[u8], tag: Tag, at: usize, end: usize) -> bool
+    ensures { λ r. ⌜ r ≡ beginsAt (tagByte tag) (now (s .entry)) at end ⌝ }
+{
+    if end <= at {
+        return false;
+    }
+    if s.len() <= at {
+        return false;
+    }
+    s[at] == tag_byte(tag)
+}
+
+// The end of what stands in a tag: 5 at the first byte left over.
+pub fn close(at: usize, end: usize) -> Step
+    ensures { λ r. ⌜ r ≡ closeAt at end ⌝ }
+{
+    if at < end {
+        return Step::Refused(LEFT_OVER, at);
+    }
+    Step::Next(end)
 }

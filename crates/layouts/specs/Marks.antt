@@ -9,7 +9,7 @@ use lib.Dec.{eqb, ltb}
 use Rattle.terms.specs.declared.Field.{Field}
 use Rattle.terms.specs.Numbers.{too-many-items}
 use Rattle.terms.specs.Answer.{pick}
-use Rattle.heads.specs.Scan.{headAt, outermostAt}
+use Rattle.heads.specs.Scan.{headAt, outermostAt, beginsAt}
 use Rattle.heads.specs.declared.Seen.{Seen}
 use Rattle.heads.specs.declared.Seen.the-variants.{Item as At, Refused as Bad}
 use Rattle.heads.specs.declared.Step.{Step}
@@ -17,7 +17,7 @@ use Rattle.heads.specs.declared.Step.the-variants.{Next, Refused}
 use Rattle.contents.specs.Leaves.{Leaf, boolean}
 use Rattle.layouts.specs.Layout.{Item, leaf, node, list, wrap, Members, end, _▸_, Member, known, one, maybe, flag, choose, tagOf}
 use Rattle.layouts.specs.Whole.{sequence}
-use Rattle.layouts.specs.Scan.{leafAt, beginsAt, scan, scanPart}
+use Rattle.layouts.specs.Scan.{leafAt, scan, scanPart}
 use Rattle.layouts.specs.Fields.{Entry}
 use Rattle.layouts.specs.Places.{slot, wanted}
 use Rattle.layouts.specs.declared.Tally.{Tally}

@@ -1,14 +1,14 @@
 -- Reading by positions: where what follows an item starts, or the refusal. Assumes nothing.
 -- Nobody has to believe this page: `Laws.Scan` proves that it is `Reading`, and code is proved against its steps.
 use Prim.Native.Nat.{ℕ, suc, zero, _+_}
-use mathlib.Core.Bool.{Bool, _&&_, _||_}
+use mathlib.Core.Bool.{_||_}
 use mathlib.Core.List.{List}
-use lib.ListN.{length, getD}
+use lib.ListN.{length}
 use lib.Seq.{slice}
-use lib.Dec.{ltb, eqb}
-use Rattle.terms.specs.Numbers.{left-over, no-item, too-many-items}
+use lib.Dec.{ltb}
+use Rattle.terms.specs.Numbers.{no-item, too-many-items}
 use Rattle.terms.specs.Answer.{pick}
-use Rattle.heads.specs.Scan.{headAt, outermostAt}
+use Rattle.heads.specs.Scan.{headAt, outermostAt, beginsAt, closeAt}
 use Rattle.heads.specs.declared.Seen.{Seen}
 use Rattle.heads.specs.declared.Seen.the-variants.{Item as At, Refused as Bad}
 use Rattle.heads.specs.declared.Step.{Step}
@@ -39,12 +39,6 @@ thenJudge (Bad n p) k = Bad n p
 -- where a primitive item's value lies
 unfoldable pub leafAt : Leaf → List ℕ → ℕ → ℕ → Seen
 leafAt l s p e = thenJudge (headAt (l .tag) s p e) λ a z. judgedAt (contentAt (l .front) (ruleOf (l .holds)) s p a z) (a + length (l .front)) z
-
-unfoldable pub beginsAt : ℕ → List ℕ → ℕ → ℕ → Bool
-beginsAt t s p e = ltb p e && eqb (getD s p 0) t
-
-unfoldable pub closeAt : ℕ → ℕ → Step
-closeAt p e = pick (ltb p e) (Refused left-over p) (Next e)
 
 unfoldable pub scanMany : (ℕ → Step) → ℕ → ℕ → ℕ → Step
 scanMany f zero p e = pick (ltb p e) (Refused too-many-items p) (Next e)

@@ -1,35 +1,29 @@
--- A primitive item by its head and its rule; the small questions. Assumes nothing.
+-- A primitive item by its head and its rule. Assumes nothing.
 use mathlib.Core.Path.{_≡_, refl, sym, ap, _∙_}
-use Prim.Native.Nat.{ℕ, suc, zero, _+_, _-_, _≤_, _<_}
+use Prim.Native.Nat.{ℕ, suc, zero, _+_, _-_, _≤_}
 use native.Mathlib.Omega.{arith}
-use mathlib.Core.Bool.{Bool, false}
+use mathlib.Core.Bool.{Bool}
 use mathlib.Core.List.{List, [], _∷_}
-use lib.ListN.{length, getD, take, length-append, length-drop, List·getD-eq-default}
+use lib.ListN.{length, take, length-append, length-drop}
 use lib.Seq.{slice}
-use lib.Dec.{eqb}
-use borrow.Author.Tests.{lt-ltb, le-ltb}
-use Rattle.terms.specs.Numbers.{left-over}
 use Rattle.terms.specs.Answer.{Res, good, fault, same}
-use Rattle.terms.specs.Laws.Answer.{never, pick-lt, pick-ge}
+use Rattle.terms.specs.Laws.Answer.{never}
 use Rattle.heads.specs.Head.{forms, Cut, head, tlv, before}
 use Rattle.heads.specs.Laws.Head.{head-back, length-tlv}
 use Rattle.heads.specs.Scan.{seen, headAt}
 use Rattle.heads.specs.declared.Seen.{Seen}
 use Rattle.heads.specs.declared.Seen.the-variants.{Item, Refused as Bad}
-use Rattle.heads.specs.declared.Step.the-variants.{Next, Refused}
 use Rattle.contents.specs.Leaves.{Leaf, ruleOf, Known, only}
 use Rattle.contents.specs.Scan.{contentAt}
 use Rattle.contents.specs.declared.Checked.{Checked}
 use Rattle.contents.specs.declared.Checked.the-variants.{Fine, Wrong}
 use Rattle.items.specs.declared.Tag.{Tag}
-use Rattle.items.specs.declared.Tag.the-variants as tag
 use Rattle.items.specs.Scan.{tagByte}
-use Rattle.layouts.specs.Scan.{judgedAt, leafAt, beginsAt, closeAt}
+use Rattle.layouts.specs.Scan.{judgedAt, leafAt}
 use Rattle.primitives.specs.declared.Content.{Content}
 use Rattle.primitives.specs.declared.Content.the-variants as content
 use Rattle.primitives.specs.declared.Primitive.{Primitive}
 use Rattle.primitives.specs.Primitive.{leafOf, says}
-use Rattle.leaves.specs.Leaf.{pastOf}
 
 -- ---- a head, then a rule
 
@@ -68,44 +62,6 @@ head-inside t s p e a z x i j = go (head forms t (slice p e s) p) refl (sym i �
         omega arith
     go (fault n q) o g = never (cc)
 
--- ---- a tag
-
-not-zero : (t : Tag) → eqb 0 (tagByte t) ≡ false
-not-zero tag.Boolean = refl
-not-zero tag.Integer = refl
-not-zero tag.BitString = refl
-not-zero tag.OctetString = refl
-not-zero tag.Identifier = refl
-not-zero tag.Utf8String = refl
-not-zero tag.PrintableString = refl
-not-zero tag.Ia5String = refl
-not-zero tag.Time = refl
-not-zero tag.Sequence = refl
-not-zero tag.Context0 = refl
-
-module _ (t : Tag) (s : List ℕ) (p e : ℕ) where
-  pub begins-end : e ≤ p → false ≡ beginsAt (tagByte t) s p e
-  unfolding beginsAt
-  begins-end h = rw (le-ltb p e h)
-
-  pub begins-out : p < e → length s ≤ p → false ≡ beginsAt (tagByte t) s p e
-  unfolding beginsAt
-  begins-out h k = rw (lt-ltb p e h, List·getD-eq-default s 0 k) (sym (not-zero t))
-
-  pub begins-in : (b : ℕ) → p < e → b ≡ tagByte t → eqb (getD s p 0) b ≡ beginsAt (tagByte t) s p e
-  unfolding beginsAt
-  begins-in b h i = rw (lt-ltb p e h, i)
-
--- ---- the end of a window
-
-pub close-left : (p e : ℕ) → p < e → Refused left-over p ≡ closeAt p e
-unfolding closeAt
-close-left p e h = pick-lt p e _ _ h
-
-pub close-end : (p e : ℕ) → e ≤ p → Next e ≡ closeAt p e
-unfolding closeAt
-close-end p e h = pick-ge p e _ _ h
-
 -- ---- by the case of an enum
 
 module _ (s : List ℕ) (p a z : ℕ) (y : Checked) where
@@ -123,10 +79,3 @@ module _ (c : Checked) (a z : ℕ) where
   pub judged-wrong : (n p : ℕ) → c ≡ Wrong n p → Bad n p ≡ judgedAt c a z
   unfolding judgedAt
   judged-wrong n p i = rw i
-
-module _ (x : Seen) where
-  pub past-item : (a z : ℕ) → x ≡ Item a z → Next z ≡ pastOf x
-  past-item a z i = rw i
-
-  pub past-refused : (n p : ℕ) → x ≡ Bad n p → Refused n p ≡ pastOf x
-  past-refused n p i = rw i

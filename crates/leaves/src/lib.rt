@@ -1,23 +1,18 @@
-// Primitive items by name: the head, then the content's rule; and the small questions that a reader of members asks.
+// Primitive items by name: the head, then the content's rule.
 use contents::Checked;
 use heads::Seen;
-use heads::Step;
 use integers::Allowed;
-use items::Tag;
 use primitives::Content;
 use primitives::Primitive;
 use primitives::Word;
-use terms::LEFT_OVER;
 use terms::MAY_BE_EMPTY;
 use terms::NEVER_EMPTY;
 ghost use mathlib.Core.Path.{_≡_};
 ghost use lib.Seq.{slice};
 ghost use Rattle.contents.specs.Leaves.{ruleOf, only};
 ghost use Rattle.contents.specs.Scan.{contentAt};
-ghost use Rattle.items.specs.Scan.{tagByte};
-ghost use Rattle.layouts.specs.Scan.{judgedAt, leafAt, beginsAt, closeAt};
+ghost use Rattle.layouts.specs.Scan.{judgedAt, leafAt};
 ghost use Rattle.primitives.specs.Primitive.{leafOf, knownOf, says};
-ghost use Rattle.leaves.specs.Leaf.{pastOf};
 
 // A content by the rule of its primitive item.
 fn rule(s: &[u8], p: Primitive, at: usize, a: usize, z: usize) -> Checked
@@ -78,37 +73,4 @@ pub fn is_content(s: &[u8], c: Content, a: usize, z: usize) -> bool
     match c {
         Content::Kind1 => windows::is_same(w, b"\x01"),
     }
-}
-
-// Where what follows an item starts, or its refusal.
-pub fn past(x: Seen) -> Step
-    ensures { λ r. ⌜ r ≡ pastOf x ⌝ }
-{
-    match x {
-        Seen::Item(_, z) => Step::Next(z),
-        Seen::Refused(number, place) => Step::Refused(number, place),
-    }
-}
-
-// Whether an item of a tag begins here: its tag alone makes an optional item present.
-pub fn begins(s: &[u8], tag: Tag, at: usize, end: usize) -> bool
-    ensures { λ r. ⌜ r ≡ beginsAt (tagByte tag) (now (s .entry)) at end ⌝ }
-{
-    if end <= at {
-        return false;
-    }
-    if s.len() <= at {
-        return false;
-    }
-    s[at] == items::tag_byte(tag)
-}
-
-// The end of what stands in a tag: 5 at the first byte left over.
-pub fn close(at: usize, end: usize) -> Step
-    ensures { λ r. ⌜ r ≡ closeAt at end ⌝ }
-{
-    if at < end {
-        return Step::Refused(LEFT_OVER, at);
-    }
-    Step::Next(end)
 }

@@ -5,13 +5,13 @@ use mathlib.Core.List.{List, []}
 use lib.ListN.{length}
 use Rattle.terms.specs.Answer.{Res, good, fault, answered}
 use Rattle.terms.specs.Laws.Answer.{never}
-use Rattle.heads.specs.Scan.{outermostAt}
+use Rattle.heads.specs.Scan.{outermostAt, closeAt}
 use Rattle.heads.specs.declared.Seen.{Seen}
 use Rattle.heads.specs.declared.Seen.the-variants.{Item as At, Refused as Bad}
 use Rattle.heads.specs.declared.Step.{Step}
 use Rattle.heads.specs.declared.Step.the-variants.{Next, Refused}
 use Rattle.layouts.specs.Layout.{Members, Values}
-use Rattle.layouts.specs.Scan.{closeAt, recordScan, wholeScan}
+use Rattle.layouts.specs.Scan.{recordScan, wholeScan}
 use Rattle.layouts.specs.Laws.Scan.{whole, whole-accept}
 use Rattle.layouts.specs.Whole.{sequence, accept, toldOutcome}
 use Rattle.layouts.specs.declared.Outcome.{Outcome}

@@ -13,7 +13,7 @@ use borrow.Author.Tests.{lt-ltb, le-ltb}
 use Rattle.terms.specs.declared.Field.{Field}
 use Rattle.terms.specs.Numbers.{no-item, too-many-items}
 use Rattle.terms.specs.Answer.{pick}
-use Rattle.heads.specs.Scan.{headAt, outermostAt}
+use Rattle.heads.specs.Scan.{headAt, outermostAt, pastOf, beginsAt, closeAt}
 use Rattle.heads.specs.declared.Seen.{Seen}
 use Rattle.heads.specs.declared.Seen.the-variants.{Item as At, Refused as Bad}
 use Rattle.heads.specs.declared.Step.{Step}
@@ -23,9 +23,8 @@ use Rattle.items.specs.declared.Tag.the-variants as tag
 use Rattle.items.specs.Scan.{tagByte}
 use Rattle.contents.specs.Leaves.{Leaf, only}
 use Rattle.layouts.specs.Layout.{Item, leaf, node, list, wrap, Members, end, _▸_, Member as Part, known, one, maybe, flag, choose, tagOf}
-use Rattle.layouts.specs.Scan.{thenSeen, thenStep, thenJudge, leafAt, beginsAt, closeAt, scanMany, scan, recordScan}
+use Rattle.layouts.specs.Scan.{thenSeen, thenStep, thenJudge, leafAt, scanMany, scan, recordScan}
 use Rattle.layouts.specs.Whole.{sequence}
-use Rattle.leaves.specs.Leaf.{pastOf}
 use Rattle.primitives.specs.declared.Content.{Content}
 use Rattle.primitives.specs.declared.Primitive.{Primitive}
 use Rattle.primitives.specs.declared.Primitive.the-variants as primitive

@@ -1,6 +1,7 @@
 -- Tags and their bytes: each tag has a byte of its own, so that of a byte one thing is true. Assumes nothing.
 use mathlib.Core.Path.{_≡_, refl, sym, ap, _∙_, subst}
 use Prim.Native.Nat.{ℕ}
+use mathlib.Core.Bool.{false}
 use mathlib.Core.Option.{Option, none, some}
 use mathlib.Core.List.{List, [], _∷_}
 use lib.Dec.{eqb}
@@ -31,6 +32,10 @@ tells-one b (Known t) (Known u) h k = ap Known (tag-one t u (sym h ∙ k))
 tells-one b (Known t) Other h k = absurd (k t h)
 tells-one b Other (Known u) h k = absurd (h u k)
 tells-one b Other Other h k = refl
+
+-- no tag has the byte 0
+pub not-zero : (t : Tag) → eqb 0 (tagByte t) ≡ false
+not-zero t = elim t [ Boolean ↦ refl | Integer ↦ refl | BitString ↦ refl | OctetString ↦ refl | Identifier ↦ refl | Utf8String ↦ refl | PrintableString ↦ refl | Ia5String ↦ refl | Time ↦ refl | Sequence ↦ refl | Context0 ↦ refl ]
 
 -- a byte that is none of the tags
 pub no-tag : (b : ℕ) → (b ≡ 0x01 → ⊥) → (b ≡ 0x02 → ⊥) → (b ≡ 0x03 → ⊥) → (b ≡ 0x04 → ⊥) → (b ≡ 0x06 → ⊥) → (b ≡ 0x0C → ⊥) → (b ≡ 0x13 → ⊥) → (b ≡ 0x16 → ⊥) → (b ≡ 0x18 → ⊥)

@@ -14,7 +14,7 @@ use Rattle.terms.specs.Numbers.{left-over, bad-bits, no-item, too-many-items}
 use Rattle.terms.specs.Answer.{Res, good, fault, Got, got, pick, bind, need, enough, same, finish}
 use Rattle.terms.specs.Laws.Answer.{good-inj, test, is-true, is-false, by-bind, need-eq}
 use Rattle.heads.specs.Head.{forms, Cut, cutOff, head, outermost, tlv, octets}
-use Rattle.heads.specs.Scan.{seen, headAt, outermostAt}
+use Rattle.heads.specs.Scan.{seen, headAt, outermostAt, beginsAt, closeAt}
 use Rattle.heads.specs.Laws.Head.{head-back, outermost-back}
 use Rattle.heads.specs.declared.Seen.{Seen}
 use Rattle.heads.specs.declared.Step.{Step}
@@ -26,7 +26,7 @@ use Rattle.contents.specs.Laws.Leaves.{by-judge}
 use Rattle.layouts.specs.Layout.{Item, leaf, node, list, wrap, Members, end, _▸_, Member, known, one, maybe, flag, choose, tagOf, Value, Values, Part, encode, encodePart}
 use Rattle.layouts.specs.Whole.{sequence, recordAt, accept}
 use Rattle.layouts.specs.Reading.{next, behind, readLeaf, begins, many, readOption, readFlag, readEither, read, reads, readPart}
-use Rattle.layouts.specs.Scan.{thenSeen, thenStep, judgedAt, thenJudge, leafAt, beginsAt, closeAt, scanMany, scan, scans, scanPart, recordScan, wholeScan}
+use Rattle.layouts.specs.Scan.{thenSeen, thenStep, judgedAt, thenJudge, leafAt, scanMany, scan, scans, scanPart, recordScan, wholeScan}
 use Rattle.layouts.specs.Laws.Reading.{behind-back, backward, backwardPart}
 
 -- ---- windows of a slice

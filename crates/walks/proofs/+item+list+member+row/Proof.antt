@@ -22,11 +22,11 @@ use Rattle.walks.proofs.row.Reads as row
 use Rattle.walks.proofs.row.Kinds as row-kinds
 use Rattle.walks.proofs.+item+list+member+row.Lts-row as row-lts
 use Rattle.items.proofs.head.Reads as head-reads
-use Rattle.leaves.proofs.begins.Reads as begins-reads
-use Rattle.leaves.proofs.close.Reads as close-reads
+use Rattle.items.proofs.begins.Reads as begins-reads
+use Rattle.items.proofs.close.Reads as close-reads
+use Rattle.items.proofs.past.Reads as past-reads
 use Rattle.leaves.proofs.is_content.Reads as is-content-reads
 use Rattle.leaves.proofs.known.Reads as known-reads
-use Rattle.leaves.proofs.past.Reads as past-reads
 use Rattle.places.proofs.note.Reads as note-reads
 use Rattle.structures.proofs.build_of.Reads as build-of-reads
 use Rattle.rows.proofs.members_of.Reads as members-of-reads

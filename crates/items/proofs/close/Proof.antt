@@ -1,8 +1,8 @@
--- `leaves::close`: a byte is left over, or none.
-use Rattle.leaves.specs.Laws.{close-left, close-end}
+-- `items::close`: a byte is left over, or none.
+use Rattle.items.specs.Laws.Around.{close-left, close-end}
 use borrow.Author.Needs.{needs}
-use Rattle.leaves.proofs.close.Statement.{statement}
-use Rattle.leaves.proofs.close.Tie as tie
+use Rattle.items.proofs.close.Statement.{statement}
+use Rattle.items.proofs.close.Tie as tie
 
 returns : tie.Need-returns
 returns c = search (needs, close-left)

@@ -1,8 +1,8 @@
--- `leaves::past`: an item ends where its content does.
-use Rattle.leaves.specs.Laws.{past-item, past-refused}
+-- `items::past`: an item ends where its content does.
+use Rattle.items.specs.Laws.Around.{past-item, past-refused}
 use borrow.Author.Needs.{needs}
-use Rattle.leaves.proofs.past.Statement.{statement}
-use Rattle.leaves.proofs.past.Tie as tie
+use Rattle.items.proofs.past.Statement.{statement}
+use Rattle.items.proofs.past.Tie as tie
 
 enum-known-x : tie.Need-enum-known-x
 enum-known-x c = search needs

@@ -1,8 +1,8 @@
--- `leaves::begins`: nothing at the end, nothing past the slice, else the byte.
-use Rattle.leaves.specs.Laws.{begins-end, begins-out, begins-in}
+-- `items::begins`: nothing at the end, nothing past the slice, else the byte.
+use Rattle.items.specs.Laws.Around.{begins-end, begins-out, begins-in}
 use borrow.Author.Needs.{needs}
-use Rattle.leaves.proofs.begins.Statement.{statement}
-use Rattle.leaves.proofs.begins.Tie as tie
+use Rattle.items.proofs.begins.Statement.{statement}
+use Rattle.items.proofs.begins.Tie as tie
 
 returns : tie.Need-returns
 returns c = search (needs, begins-end)
