@@ -22,11 +22,11 @@ pub fn leaf(
     ensures { λ r. ⌜ (r, now (places .exit)) ≡ leafWalk (leafOf primitive) name index (now (s .entry)) at end (now (places .entry)) ⌝ }
 {
     let h = leaves::leaf(s, primitive, at, end);
-    let Seen::Item(a, z) = h else {
+    let Seen::Item { start: a, end: z } = h else {
         return h;
     };
     places::note(places, name, index, a, z, 0);
-    Seen::Item(a, z)
+    Seen::Item { start: a, end: z }
 }
 
 // The head of a list: 15 if it has no item and needs one.
@@ -34,11 +34,11 @@ pub fn list_head(s: &[u8], t: Tag, empty: bool, at: usize, end: usize) -> Seen
     ensures { λ r. ⌜ r ≡ listHeadAt (tagByte t) empty (now (s .entry)) at end ⌝ }
 {
     let h = items::head(s, t, at, end);
-    let Seen::Item(a, z) = h else {
+    let Seen::Item { start: a, end: z } = h else {
         return h;
     };
     if !windows::enough(a, z, empty) {
         return Seen::Refused(NO_ITEM, at);
     }
-    Seen::Item(a, z)
+    Seen::Item { start: a, end: z }
 }

@@ -1,6 +1,6 @@
 // An item at a position: where its content starts and where it stops, or the refusal's number and place.
 pub enum Seen {
-    Item(usize, usize),
+    Item { start: usize, end: usize },
     Refused(u8, usize),
 }
 

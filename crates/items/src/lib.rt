@@ -55,7 +55,7 @@ enum Length {
 
 // A tag and a length that were read: the bytes of both together and those of the content, or the refusal's number and place.
 enum Opening {
-    Opened(usize, usize),
+    Opened { header: usize, content: usize },
     Refused(u8, usize),
 }
 
@@ -176,7 +176,7 @@ fn open(s: &[u8], tag: Tag, at: usize, stop: usize) -> Opening
     if !shortest {
         return Opening::Refused(BAD_LENGTH, at);
     }
-    Opening::Opened(header, content)
+    Opening::Opened { header, content }
 }
 
 // The content behind a header, if it ends by the encloser's end: 4.
@@ -188,7 +188,10 @@ fn room(at: usize, header: usize, content: usize, stop: usize) -> Seen
     if stop - start < content {
         return Seen::Refused(PAST_END, at);
     }
-    Seen::Item(start, start + content)
+    Seen::Item {
+        start,
+        end: start + content,
+    }
 }
 
 // The item of a tag at a position, up to the encloser's end: where its content lies, or 1, 2, 3 or 4.
@@ -198,7 +201,7 @@ pub fn head(s: &[u8], tag: Tag, at: usize, end: usize) -> Seen
     let stop = windows::nearer(end, s.len());
     let o = open(s, tag, at, stop);
     match o {
-        Opening::Opened(header, content) => room(at, header, content, stop),
+        Opening::Opened { header, content } => room(at, header, content, stop),
         Opening::Refused(number, place) => Seen::Refused(number, place),
     }
 }
@@ -210,7 +213,7 @@ pub fn outermost(s: &[u8], most: usize, tag: Tag, at: usize, end: usize) -> Seen
     let stop = windows::nearer(end, s.len());
     let o = open(s, tag, at, stop);
     match o {
-        Opening::Opened(header, content) => {
+        Opening::Opened { header, content } => {
             if most < header + content {
                 return Seen::Refused(TOO_LARGE, at);
             }
@@ -225,7 +228,7 @@ pub fn past(x: Seen) -> Step
     ensures { λ r. ⌜ r ≡ pastOf x ⌝ }
 {
     match x {
-        Seen::Item(_, z) => Step::Next(z),
+        Seen::Item { start: _, end } => Step::Next(end),
         Seen::Refused(number, place) => Step::Refused(number, place),
     }
 }

@@ -42,7 +42,7 @@ fn judged(c: Checked, a: usize, z: usize) -> Seen
     ensures { λ r. ⌜ r ≡ judgedAt c a z ⌝ }
 {
     match c {
-        Checked::Fine => Seen::Item(a, z),
+        Checked::Fine => Seen::Item { start: a, end: z },
         Checked::Wrong(number, place) => Seen::Refused(number, place),
     }
 }
@@ -52,7 +52,7 @@ pub fn leaf(s: &[u8], p: Primitive, at: usize, end: usize) -> Seen
     ensures { λ r. ⌜ r ≡ leafAt (leafOf p) (now (s .entry)) at end ⌝ }
 {
     let h = items::head(s, primitives::tag_of(p), at, end);
-    let Seen::Item(a, z) = h else {
+    let Seen::Item { start: a, end: z } = h else {
         return h;
     };
     judged(rule(s, p, at, a, z), a + primitives::hidden_of(p), z)

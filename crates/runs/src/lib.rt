@@ -1,6 +1,6 @@
 // One step of a run: the next record's start and length, the end, or the refusal's number and place and the records before it.
 pub enum Stepped {
-    Record(usize, usize),
+    Record { start: usize, length: usize },
     End,
     Refused(u8, usize, u64),
 }

@@ -40,7 +40,7 @@ fn item(
         )),
         Build::Node(t, members) => {
             let h = items::head(s, t, at, end);
-            let Seen::Item(a, z) = h else {
+            let Seen::Item { start: a, end: z } = h else {
                 return items::past(h);
             };
             places::note(places, name, index, at, z, 0);
@@ -54,7 +54,7 @@ fn item(
             each,
         } => {
             let h = entries::list_head(s, tag, empty, at, end);
-            let Seen::Item(a, z) = h else {
+            let Seen::Item { start: a, end: z } = h else {
                 return items::past(h);
             };
             let c = list(s, each, most, item_name, a, z, places);
@@ -68,7 +68,7 @@ fn item(
         }
         Build::Wrap(t, y) => {
             let h = items::head(s, t, at, end);
-            let Seen::Item(a, z) = h else {
+            let Seen::Item { start: a, end: z } = h else {
                 return items::past(h);
             };
             let r = item(s, y, name, index, a, z, places);
@@ -138,7 +138,7 @@ fn member(s: &[u8], m: Member, index: usize, at: usize, end: usize, places: &mut
             second,
         } => {
             let h = entries::leaf(s, primitive, by, index, at, end, places);
-            let Seen::Item(a, z) = h else {
+            let Seen::Item { start: a, end: z } = h else {
                 return items::past(h);
             };
             if leaves::is_content(s, content, a, z) {
@@ -183,7 +183,7 @@ pub fn record(s: &[u8], x: Row, most: usize, at: usize, end: usize, places: &mut
     ensures { λ r. ⌜ (r, now (places .exit)) ≡ recordWalk most (rowOf x) (now (s .entry)) at end (now (places .entry)) ⌝ }
 {
     let h = items::outermost(s, most, Tag::Sequence, at, end);
-    let Seen::Item(a, z) = h else {
+    let Seen::Item { start: a, end: z } = h else {
         return items::past(h);
     };
     row(s, x, 0, a, z, places)
