@@ -64,7 +64,7 @@ module _ (s w : List ℕ) (p a z : ℕ) (win : w ≡ slice a z s) (y : Checked) 
 pub bits-none : (s w : List ℕ) (p a z : ℕ) → w ≡ slice a z s → length w ≡ 0 → Wrong bad-bits p ≡ behindAt (bitString .front) (octetsRule never-empty) s p a z
 unfolding behindAt pick same
 bits-none s [] p a z win e = rw (← win)
-bits-none s (b ∷ w) p a z win e = let f : ⊥ = omega arith in absurd f
+bits-none s (b ∷ w) p a z win e = absurd (omega arith)
 
 -- ---- an identifier: `g` is whether a part begins at `i`
 

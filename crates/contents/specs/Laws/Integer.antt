@@ -10,7 +10,7 @@ use borrow.Author.Tests.{lt-ltb, le-ltb}
 use lib.IntN.{ℤ, pos, negsuc}
 use Rattle.terms.specs.Answer.{pick, every}
 use Rattle.terms.specs.Digits.{digits, number, numberFrom, isByte}
-use Rattle.terms.specs.Laws.Answer.{test, and-l, and-r, both, pick-yes, pick-no}
+use Rattle.terms.specs.Laws.Answer.{never, test, and-l, and-r, both, pick-yes, pick-no}
 use Rattle.terms.specs.Laws.Digits.{number-of-digits, digits-number, length-digits, digits-small, number-small, number-split}
 use Rattle.contents.specs.Integer.{sign, shortest, widest, wellFormed, turned, value, eight, shrink, contentOf, signOf, stretch, unstretch, Fits}
 
@@ -89,7 +89,7 @@ stretch-back x c e =
     let q : some (shrink x) ≡ some c = sym (pick-yes (eqb (length x) widest) _ _ h) ∙ e in
     let r : shrink x ≡ c = cc in
     rw (← r, shrink-sign x, ← l) (shrink-back x))
-    (λ h. let q : none ≡ some c = sym (pick-no (eqb (length x) widest) _ _ h) ∙ e in let z : _≡_ {A = ℕ} 0 1 = cc in let y : ⊥ = omega arith in absurd y)
+    (λ h. let q : none ≡ some c = sym (pick-no (eqb (length x) widest) _ _ h) ∙ e in never (cc))
 
 pub stretch-near : (c : List ℕ) → length (stretch c) ≤ 8 + length c
 unfolding stretch
@@ -162,7 +162,7 @@ module _ (a : ℕ) (c : List ℕ) (k : bytes (a ∷ c)) (l : length c ≡ 7) whe
       rw (value-high a c h) (ap turned d′ ∙ turned-turned (a ∷ c) k, low-number (255 - a) (turned c) a′ t l′)
 
 pub eight-value : (x : List ℕ) → bytes x → length x ≡ widest → Eight x (value x)
-eight-value [] k l = let z : ⊥ = omega arith in absurd z
+eight-value [] k l = absurd (omega arith)
 eight-value (a ∷ c) k l =
     let l′ : length c ≡ 7 = omega arith in
     test (ltb a 128)
@@ -232,7 +232,7 @@ contentOf-wellFormed z =
     both (shortest (shrink (eight z))) _ (some-shortest (eight z) (omega arith)) (le→leb (length (shrink (eight z))) 8 (omega arith))
   where
     some-shortest : (x : List ℕ) → 1 ≤ length x → T (shortest (shrink x))
-    some-shortest [] h = let y : ⊥ = omega arith in absurd y
+    some-shortest [] h = absurd (omega arith)
     some-shortest (a ∷ x) h = shrink-shortest a x
 
 -- the number of the content of a number, for every number that eight bytes hold

@@ -8,7 +8,7 @@ use mathlib.Core.List.{List}
 use lib.ListN.{length}
 use lib.Dec.{T, leb}
 use Rattle.terms.specs.Answer.{Res, good}
-use Rattle.terms.specs.Laws.Answer.{clash, and-l, and-r}
+use Rattle.terms.specs.Laws.Answer.{never, clash, and-l, and-r}
 use Rattle.contents.specs.Content.{Check, fine, wrong, ask, passes, judge}
 use Rattle.contents.specs.Integer.{shortest, wellFormed, widest}
 use Rattle.contents.specs.Rules.{integerRule}
@@ -20,7 +20,7 @@ use Rattle.contents.specs.Laws.Integer.{stretch-there, stretch-back, str
 pub by-ask {ℓ} : {X : Type ℓ} (t : Bool) (n : ℕ) (k : Check) → ask t n k ≡ fine → (T t → k ≡ fine → X) → X
 unfolding ask
 by-ask true n k h f = f tt h
-by-ask false n k h f = let z : _≡_ {A = ℕ} 0 1 = cc in let y : ⊥ = omega arith in absurd y
+by-ask false n k h f = never (cc)
 
 pub by-judge {ℓ} : {A : Type 0} {X : Type ℓ} (k : Check) (p s : ℕ) (r : Res A) (a : A) → judge k p s r ≡ good a → (k ≡ fine → r ≡ good a → X) → X
 unfolding judge

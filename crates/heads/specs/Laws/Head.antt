@@ -69,7 +69,7 @@ Above o x = (a : ℕ) × (r : List ℕ) × (x ≡ a ∷ r) × (o < a)
 
 spell-above : (o k l : ℕ) (fs : List Form) (n : ℕ) → T (clearForms o k l fs) → l ≤ n → n < limit l fs → Above o (spell fs n)
 unfolding spell limit
-spell-above o k l [] n c h g = let z : ⊥ = omega arith in absurd z
+spell-above o k l [] n c h g = absurd (omega arith)
 spell-above o k l (f ∷ fs) n c h g =
     let d = clear-form o k l f fs c in
     let u : o < f .octet = d .above in
@@ -82,7 +82,7 @@ spell-above o k l (f ∷ fs) n c h g =
 -- what is spelled is read
 unspell-spell : (o k l : ℕ) (fs : List Form) (p n a : ℕ) (r w : List ℕ) → T (clearForms o k l fs) → l ≤ n → n < limit l fs → spell fs n ≡ a ∷ r → unspell fs p a (r ++ w) ≡ good (sized (1 + length (a ∷ r)) n w)
 unfolding spell unspell limit bind have
-unspell-spell o k l [] p n a r w c h g e = let z : ⊥ = omega arith in absurd z
+unspell-spell o k l [] p n a r w c h g e = absurd (omega arith)
 unspell-spell o k l (f ∷ fs) p n a r w c h g e =
     let d = clear-form o k l f fs c in
     test (ltb n (256 ^ f .bytes))
@@ -127,7 +127,7 @@ unspell-back o k l (f ∷ fs) p a w z c e =
       written = λ h.
           test (ltb (z .content) (256 ^ f .bytes))
           (λ u. let q : z .header ≡ 1 + suc (f .bytes) = h ∙ rw (pick-yes (ltb (z .content) (256 ^ f .bytes)) (f .octet ∷ digits 256 (f .bytes) (z .content)) (spell fs (z .content)) u, length-digits 256 (omega arith) (f .bytes) (z .content)) in
-          let x : ⊥ = omega arith in absurd x)
+          absurd (omega arith))
           (λ u. let q = pick-no (ltb (z .content) (256 ^ f .bytes)) (f .octet ∷ digits 256 (f .bytes) (z .content)) (spell fs (z .content)) u in rw q (r .written (rw q at h)));
     })
 
@@ -175,7 +175,7 @@ any-back p (a ∷ w) z e q =
     (λ t. let u = unspell-back 127 0 128 forms p a w z forms-clear (sym (pick-no _ _ _ t) ∙ e) in
     let l : 2 < z .header = u .longer in
     test (ltb (z .content) 128)
-    (λ k. let x : ⊥ = omega (arith, ap length (octets-below (z .content) (ltb→lt _ _ k))) in absurd x)
+    (λ k. absurd (omega (arith, ap length (octets-below (z .content) (ltb→lt _ _ k)))))
     (λ k. let o = octets-long (z .content) (nltb→le _ _ k) in (rw o (u .written (rw o at q)), rw forms-limit at (u .below))))
 
 -- the header of a length that is taken is as long as it is written

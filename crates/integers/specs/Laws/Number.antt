@@ -1,5 +1,5 @@
 -- The loop over a content's digits, and the cases of its number, with premises as code has them. Assumes nothing.
-use mathlib.Core.Path.{_≡_, refl, sym, ap, _∙_, subst}
+use mathlib.Core.Path.{_≡_, refl, sym, ap, _∙_}
 use Prim.Native.Nat.{ℕ, zero, suc, _+_, _-_, _*_, _/_, _%_, _^_, _≤_, _<_}
 use native.Mathlib.Omega.{arith}
 use native.Mathlib.Numerals.{add-one}
@@ -10,7 +10,7 @@ use lib.ListN.{length, getD, drop, drop-of-length-le, length-drop}
 use lib.Seq.{slice, drop-cons}
 use lib.Signed.{leZ, ltZ, mag}
 use lib.IntN.{ℤ, pos, negsuc, _-ℤ_}
-use lib.Dec.{T, eqb}
+use lib.Dec.{eqb}
 use mir.Syntax.{w64}
 use mir.Val.{toZ, ofZ, SFits}
 use mir.Facts.{toZ-pos, toZ-ofZ}
@@ -98,16 +98,16 @@ module _ (c : List ℕ) where
     where
       go : (x : List ℕ) → length x ≡ 0 → false ≡ shortest x
       go [] h = refl
-      go (a ∷ x) h = let z : ⊥ = omega arith in absurd z
+      go (a ∷ x) h = absurd (omega arith)
 
   pub short-one : length c ≡ 1 → true ≡ shortest c
   unfolding shortest
   short-one h = go c h
     where
       go : (x : List ℕ) → length x ≡ 1 → true ≡ shortest x
-      go [] h = let z : ⊥ = omega arith in absurd z
+      go [] h = absurd (omega arith)
       go (a ∷ []) h = refl
-      go (a ∷ b ∷ x) h = let z : ⊥ = omega arith in absurd z
+      go (a ∷ b ∷ x) h = absurd (omega arith)
 
   short-two : (length c ≡ 0 → ⊥) → (length c ≡ 1 → ⊥) → shortest c ≡ not (eqb (getD c 0 0) (sign (getD c 1 0)))
   unfolding shortest
@@ -169,7 +169,7 @@ module _ (c : List ℕ) where
   value-low h k = go c h k
     where
       go : (x : List ℕ) → getD x 0 0 < 128 → 0 < length x → value x ≡ pos (number 256 x)
-      go [] h k = let z : ⊥ = omega arith in absurd z
+      go [] h k = absurd (omega arith)
       go (a ∷ x) h k = rw (lt-ltb a 128 h)
 
   value-high : 128 ≤ getD c 0 0 → value c ≡ negsuc (number 256 (turned c))
@@ -177,7 +177,7 @@ module _ (c : List ℕ) where
   value-high h = go c h
     where
       go : (x : List ℕ) → 128 ≤ getD x 0 0 → value x ≡ negsuc (number 256 (turned x))
-      go [] h = let z : ⊥ = omega arith in absurd z
+      go [] h = absurd (omega arith)
       go (a ∷ x) h = rw (le-ltb a 128 h)
 
   pub value-positive : (m : ℕ) → 0 < length c → getD c 0 0 < 128 → m ≡ number 256 c → m < 2 ^ 63 → toZ w64 m ≡ value c
@@ -264,12 +264,12 @@ pub negative-test : (z : ℤ) → SFits w64 z → ltZ (bits z) (pos 0) ≡ negat
 negative-test z f = rw (toZ-ofZ f) (under-zero z)
 
 flip : (z : ℤ) → negative z ≡ true → negsuc 0 -ℤ z ≡ pos (mag z)
-flip (pos n) e = absurd (subst (λ (b : Bool). T b) (sym e) tt)
+flip (pos n) e = never (cc)
 flip (negsuc n) e = simp (le-ltb (suc n) 1 (omega arith)) (ap pos (let q : suc n - 1 ≡ n = omega arith in q))
 
 keep : (z : ℤ) → negative z ≡ false → z ≡ pos (mag z)
 keep (pos n) e = refl
-keep (negsuc n) e = absurd (subst (λ (b : Bool). T b) e tt)
+keep (negsuc n) e = never (cc)
 
 module _ (z : ℤ) (f : SFits w64 z) where
   pub flipped : ltZ (bits z) (pos 0) ≡ true → negsuc 0 -ℤ bits z ≡ pos (mag z)
@@ -321,7 +321,7 @@ module _ (x : List ℕ) where
       go : (y : List ℕ) → length y ≡ 1 → length (shrink y) ≡ 1
       go [] k = k
       go (a ∷ []) k = refl
-      go (a ∷ b ∷ y) k = let z : ⊥ = omega arith in absurd z
+      go (a ∷ b ∷ y) k = absurd (omega arith)
 
 pub content-size : (z : ℤ) (x : List ℕ) (n : ℕ) → SFits w64 z → x ≡ eight (bits z) → n ≡ length (shrink x) → n ≡ length (contentOf z)
 unfolding contentOf

@@ -42,7 +42,7 @@ under-at f d zero h = ap (λ (k : ℕ). getD d k 0) (omega arith)
 under-at f d (suc zero) h = refl
 under-at f d (suc (suc zero)) h = refl
 under-at f d (suc (suc (suc zero))) h = refl
-under-at f d (suc (suc (suc (suc j)))) h = let z : ⊥ = omega arith in absurd z
+under-at f d (suc (suc (suc (suc j)))) h = absurd (omega arith)
 
 -- they are the four that stand there one by one
 under-is : (f : Field) (d vs : List ℕ) → 4 ≡ length vs → ((j : ℕ) → j < 4 → getD d (slot f + j) 0 ≡ getD vs j 0) → under f d ≡ vs

@@ -12,7 +12,7 @@ use lib.Dec.{T, leb, ltb, eqb}
 use borrow.Author.Tests.{eq-eqb}
 use Rattle.terms.specs.Numbers.{left-over}
 use Rattle.terms.specs.Answer.{Res, good, Got, got, pick, bind, need, enough, same, finish}
-use Rattle.terms.specs.Laws.Answer.{clash, good-inj, test, and-l, and-r, is-true, is-false, pick-yes, pick-no, by-bind, by-need, same-eq, same-refl}
+use Rattle.terms.specs.Laws.Answer.{never, clash, good-inj, test, and-l, and-r, is-true, is-false, pick-yes, pick-no, by-bind, by-need, same-eq, same-refl}
 use Rattle.heads.specs.Head.{forms, Cut, cutOff, tlv, octets, before}
 use Rattle.heads.specs.Laws.Head.{head-tlv, head-back, length-tlv, unspelled}
 use Rattle.contents.specs.Content.{Check, fine, wrong, ask, judge, passes}
@@ -131,7 +131,7 @@ only-back r k n c h = go (r c) h
   where
     go : (x : Check) → also x (ask (same c k) n fine) ≡ fine → c ≡ k
     go fine e = by-ask _ _ _ e λ t e₁. same-eq c k t
-    go (wrong m y) e = let z : _≡_ {A = ℕ} 0 1 = cc in let f : ⊥ = omega arith in absurd f
+    go (wrong m y) e = never (cc)
 
 -- ---- a list of items, to the end of the window
 
@@ -151,7 +151,7 @@ module _ {A : Type 0} (f : List ℕ → ℕ → Res (Got A)) (e : A → List ℕ
   pub many-forward : Forward f e P → (t : ℕ) → Starts t e → (n : ℕ) (xs : List A) → All P xs → length xs ≤ n → (b : ℕ) → length (each e xs) < unspelled → many f n (each e xs) b ≡ good xs
   unfolding many each bind
   many-forward fw t st zero [] ok h b l = refl
-  many-forward fw t st zero (x ∷ xs) ok h b l = let z : ⊥ = omega arith in absurd z
+  many-forward fw t st zero (x ∷ xs) ok h b l = absurd (omega arith)
   many-forward fw t st (suc n) [] ok h b l = refl
   many-forward fw t st (suc n) (x ∷ xs) ok h b l =
       let m = length-append (e x) (each e xs) in

@@ -11,7 +11,7 @@ use lib.Seq.{take-append-seam, drop-append-seam, length-take-le}
 use lib.Dec.{T, leb, ltb, eqb, eqb→eq, leb→le, ltb→lt}
 use borrow.Author.Tests.{le-leb}
 use Rattle.terms.specs.Answer.{Res, good, Got, got, pick, bind, need, have, enough, same}
-use Rattle.terms.specs.Laws.Answer.{good-inj, test, and-l, and-r, pick-yes, pick-no, by-bind, by-need, by-have, same-eq}
+use Rattle.terms.specs.Laws.Answer.{never, good-inj, test, and-l, and-r, pick-yes, pick-no, by-bind, by-need, by-have, same-eq}
 use Rattle.terms.specs.Laws.Digits.{leading-there, leading-back, length-digits}
 use Rattle.heads.specs.Head.{Cut, cutOff, tlv}
 use Rattle.heads.specs.Laws.Head.{length-tlv, octets-some, unspelled}
@@ -93,7 +93,7 @@ byte-criticalIn x v e =
     (λ h. let q : some false ≡ some v = sym (pick-yes (same x (0 ∷ [])) _ _ h) ∙ e in let u : false ≡ v = cc in rw (← u) (sym (same-eq x (0 ∷ []) h)))
     (λ h. test (same x (1 ∷ []))
     (λ g. let q : some true ≡ some v = sym (pick-yes (same x (1 ∷ [])) _ _ g) ∙ sym (pick-no (same x (0 ∷ [])) _ _ h) ∙ e in let u : true ≡ v = cc in rw (← u) (sym (same-eq x (1 ∷ []) g)))
-    (λ g. let q : none ≡ some v = sym (pick-no (same x (1 ∷ [])) _ _ g) ∙ sym (pick-no (same x (0 ∷ [])) _ _ h) ∙ e in let z : _≡_ {A = ℕ} 0 1 = cc in let y : ⊥ = omega arith in absurd y))
+    (λ g. let q : none ≡ some v = sym (pick-no (same x (1 ∷ [])) _ _ g) ∙ sym (pick-no (same x (0 ∷ [])) _ _ h) ∙ e in never (cc)))
 
 flag-filled : Filled fillFlag (λ v. section (criticalByte v)) (λ v. Unit {0})
 unfolding fillFlag bind have

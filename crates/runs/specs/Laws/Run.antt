@@ -41,7 +41,7 @@ module _ (r : Members) where
   runFrom-there : T (clears r) → (k : ℕ) (vs : List (Values r)) → All (Accepted r) vs → length vs ≤ k → (b : ℕ) → runFrom k r (runOf r vs) b ≡ whole vs
   unfolding runFrom each onward andThen
   runFrom-there c zero [] ok h b = refl
-  runFrom-there c zero (v ∷ vs) ok h b = let z : ⊥ = omega arith in absurd z
+  runFrom-there c zero (v ∷ vs) ok h b = absurd (omega arith)
   runFrom-there c (suc k) [] ok h b = refl
   runFrom-there c (suc k) (v ∷ vs) ok h b =
       cons-read k (recordOf r v ++ runOf r vs) b (record-cons v .0) (record-cons v .1 ++ runOf r vs) (ap (λ (y : List ℕ). y ++ runOf r vs) (record-cons v .2))
@@ -75,7 +75,7 @@ module _ (r : Members) where
   runFrom-back : (k : ℕ) (w : List ℕ) (b : ℕ) (vs : List (Values r)) → length w ≤ k → runFrom k r w b ≡ whole vs → (w ≡ runOf r vs) × All (Accepted r) vs
   unfolding runFrom each
   runFrom-back zero [] b vs h e = let q : [] ≡ vs = cc in rw (← q) (refl, tt)
-  runFrom-back zero (x ∷ w) b vs h e = let z : ⊥ = omega arith in absurd z
+  runFrom-back zero (x ∷ w) b vs h e = absurd (omega arith)
   runFrom-back (suc k) [] b vs h e = let q : [] ≡ vs = cc in rw (← q) (refl, tt)
   runFrom-back (suc k) (x ∷ w) b vs h e =
       by-onward _ _ vs e λ a e₁ e₂.
@@ -143,7 +143,7 @@ module _ (r : Members) where
   pub enough : (k : ℕ) (w : List ℕ) (b : ℕ) → length w ≤ k → runFrom (suc k) r w b ≡ runFrom k r w b
   unfolding runFrom onward
   enough zero [] b h = refl
-  enough zero (x ∷ w) b h = let z : ⊥ = omega arith in absurd z
+  enough zero (x ∷ w) b h = absurd (omega arith)
   enough (suc k) [] b h = refl
   enough (suc k) (x ∷ w) b h = go (recordAt largest-record r (x ∷ w) b) λ a e.
       let u = recordAt-back largest-record r (x ∷ w) b a e in
@@ -230,7 +230,7 @@ module _ (r : Members) where
   unfolding steps afterSteps handedRecords each oneMore
   walk-records c s [] ok k m b n b′ n′ before rest em es eb et ep en =
       let f : m ≡ k = omega arith in let g : b′ ≡ b = omega arith in let h : n′ ≡ n = omega arith in (rw (f, g, h) refl, rw (f, g, h) refl)
-  walk-records c s (v ∷ vs) ok k zero b n b′ n′ before rest em es eb et ep en = let z : ⊥ = omega arith in absurd z
+  walk-records c s (v ∷ vs) ok k zero b n b′ n′ before rest em es eb et ep en = absurd (omega arith)
   walk-records c s (v ∷ vs) ok k (suc m) b n b′ n′ before rest em es eb et ep en =
       let w : List ℕ = runOf r vs ++ rest in
       let q : s ≡ before ++ (recordOf r v ++ w) = es ∙ ap (λ (y : List ℕ). before ++ y) (append-assoc (recordOf r v) (runOf r vs) rest) in

@@ -11,7 +11,7 @@ use Rattle.terms.specs.Answer.{Res, good, fault, pick, bind, need, have,
 
 -- 0 is not 1, which is what two different cases that are the same come to
 pub never {ℓ} : {X : Type ℓ} → _≡_ {A = ℕ} 0 1 → X
-never e = let f : ⊥ = omega arith in absurd f
+never e = absurd (omega arith)
 
 -- a refusal is no answer
 pub clash {ℓ} : {A : Type 0} {X : Type ℓ} {n p : ℕ} {a : A} → fault n p ≡ good a → X

@@ -64,7 +64,7 @@ inOrder k (f ∷ fs) = eqb (code f) k && inOrder (suc k) fs
 -- in a list that passes it a name's number says its place
 in-order : (k : ℕ) (fs : List Field) → T (inOrder k fs) → (i : ℕ) → i < length fs → (f : Field) → code (getD fs i f) ≡ k + i
 unfolding inOrder
-in-order k [] t i h f = let z : ⊥ = omega arith in absurd z
+in-order k [] t i h f = absurd (omega arith)
 in-order k (x ∷ xs) t zero h f = eqb→eq (code x) k (and-l (eqb (code x) k) (inOrder (suc k) xs) t) ∙ omega arith
 in-order k (x ∷ xs) t (suc i) h f = in-order (suc k) xs (and-r (eqb (code x) k) (inOrder (suc k) xs) t) i (omega arith) f ∙ omega arith
 

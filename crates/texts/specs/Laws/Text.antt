@@ -44,7 +44,7 @@ Outside (x ∷ xs) b = (x .first .0 ≤ b → b ≤ x .first .1 → ⊥) × Outs
 -- a character that begins with a byte is of the first row that has the byte
 goes : (xs alphabet : List Character) (n b : ℕ) (c : List ℕ) → Outside (take n xs) b → row xs n .first .0 ≤ b → b ≤ row xs n .first .1 → (starts xs b && textFrom alphabet (follows xs b) c) ≡ textFrom alphabet (row xs n .rest) c
 unfolding starts follows pick
-goes [] alphabet n b c o l h = let f : ⊥ = omega arith in absurd f
+goes [] alphabet n b c o l h = absurd (omega arith)
 goes (x ∷ xs) alphabet zero b c o l h = rw (within-yes b (x .first) l h)
 goes (x ∷ xs) alphabet (suc n) b c (o, os) l h = rw (within-no b (x .first) o) (goes xs alphabet n b c os l h)
 

@@ -148,7 +148,7 @@ few-small n zero h l = omega arith
 few-small n (suc zero) h l = omega arith
 few-small n (suc (suc zero)) h l = omega arith
 few-small n (suc (suc (suc zero))) h l = omega arith
-few-small n (suc (suc (suc (suc j)))) h l = absurd (let z : ⊥ = omega arith in z)
+few-small n (suc (suc (suc (suc j)))) h l = absurd (omega arith)
 
 pub room : {k i n j : ℕ} {w : List ℕ} → Going k i w n j → j < k → k ≤ 4 → n < 1000
 room {k} {i} {n} {j} g h l = few-small n j (g .small) (omega arith)
