@@ -71,9 +71,9 @@ unfoldable mutual
 
 -- ---- what the laws say of a reader and a writer
 
--- a reader takes what a writer wrote, whatever follows
-abbrev pub Forward : {A : Type 0} → (List ℕ → ℕ → Res (Got A)) → (A → List ℕ) → (A → Type 0) → Type 0
-Forward {A} f e P = (a : A) → P a → (w : List ℕ) (b : ℕ) → length (e a) < unspelled → f (e a ++ w) b ≡ good (got a w (b + length (e a)))
+-- a reader takes what a writer wrote in fewer than `m` bytes, whatever follows
+abbrev pub Forward : ℕ → {A : Type 0} → (List ℕ → ℕ → Res (Got A)) → (A → List ℕ) → (A → Type 0) → Type 0
+Forward m {A} f e P = (a : A) → P a → (w : List ℕ) (b : ℕ) → length (e a) < m → f (e a ++ w) b ≡ good (got a w (b + length (e a)))
 
 -- what was read from the window `w` at `b` was written so
 abbrev pub Written : {A : Type 0} → (A → List ℕ) → (A → Type 0) → List ℕ → ℕ → Got A → Type 0
@@ -148,7 +148,7 @@ module _ {A : Type 0} (f : List ℕ → ℕ → Res (Got A)) (e : A → List ℕ
   unfolding many
   many-cons n t s w b q = rw q
 
-  pub many-forward : Forward f e P → (t : ℕ) → Starts t e → (n : ℕ) (xs : List A) → All P xs → length xs ≤ n → (b : ℕ) → length (each e xs) < unspelled → many f n (each e xs) b ≡ good xs
+  pub many-forward : Forward unspelled f e P → (t : ℕ) → Starts t e → (n : ℕ) (xs : List A) → All P xs → length xs ≤ n → (b : ℕ) → length (each e xs) < unspelled → many f n (each e xs) b ≡ good xs
   unfolding many each bind
   many-forward fw t st zero [] ok h b l = refl
   many-forward fw t st zero (x ∷ xs) ok h b l = absurd (omega arith)
@@ -171,7 +171,7 @@ module _ {A : Type 0} (f : List ℕ → ℕ → Res (Got A)) (e : A → List ℕ
 
   -- ---- an item that may be missing
 
-  pub option-forward : Forward f e P → (t : ℕ) → Starts t e → (o : Option A) → InOption P o → (w : List ℕ) (b : ℕ) → begins t w ≡ false → length (option e o) < unspelled
+  pub option-forward : Forward unspelled f e P → (t : ℕ) → Starts t e → (o : Option A) → InOption P o → (w : List ℕ) (b : ℕ) → begins t w ≡ false → length (option e o) < unspelled
       → readOption t f (option e o ++ w) b ≡ good (got o w (b + length (option e o)))
   unfolding readOption option bind pick
   option-forward fw t st none ok w b q l = rw q (ap (λ (m : ℕ). good (got none w m)) (omega arith))
@@ -220,10 +220,10 @@ flag-back w b x q =
 -- ---- one of two items
 
 module _ {A B : Type 0} (f : List ℕ → ℕ → Res (Got A)) (e : A → List ℕ) (P : A → Type 0) (g : List ℕ → ℕ → Res (Got B)) (d : B → List ℕ) (Q : B → Type 0) (t : Bool) where
-  pub either-forward : Forward f e P → Forward g d Q → Forward (readEither t f g) (either e d) (InEither t P Q)
+  pub either-forward : (m : ℕ) → Forward m f e P → Forward m g d Q → Forward m (readEither t f g) (either e d) (InEither t P Q)
   unfolding readEither either bind
-  either-forward fw gw (inl a) ok w b l = pick-yes t _ _ (ok .0) ∙ rw (fw a (ok .1) w b l)
-  either-forward fw gw (inr a) ok w b l = pick-no t _ _ (ok .0) ∙ rw (gw a (ok .1) w b l)
+  either-forward m fw gw (inl a) ok w b l = pick-yes t _ _ (ok .0) ∙ rw (fw a (ok .1) w b l)
+  either-forward m fw gw (inr a) ok w b l = pick-no t _ _ (ok .0) ∙ rw (gw a (ok .1) w b l)
 
   pub either-back : Backward f e P → Backward g d Q → Backward (readEither t f g) (either e d) (InEither t P Q)
   unfolding readEither either
@@ -304,7 +304,7 @@ enough-each t e st false (x ∷ xs) h = rw (st x .1) tt
 mutual
   unfolding read encode clear bind need finish same
 
-  pub forward : (i : Item) → T (clear i) → Forward (λ w b. read i w b) (λ v. encode i v) (λ v. Ok i v)
+  pub forward : (i : Item) → T (clear i) → Forward unspelled (λ w b. read i w b) (λ v. encode i v) (λ v. Ok i v)
   forward (leaf l) k v ok w b h = rw (leaf-forward l v w b ok h) (ap (λ (m : ℕ). good (got v w m)) (leaf-ends l v b))
   forward (node t r) k v ok w b h =
       let m = length-tlv t (encodes r v) in
@@ -351,7 +351,7 @@ mutual
         append-assoc x y w,
         leaf-forward l (v .0) (y ++ w) b (ok .0) (omega arith),
         leaf-ends l (v .0) b,
-        either-forward (λ x p. read i x p) (λ x. encode i x) (λ x. Ok i x) (λ x p. read j x p) (λ x. encode j x) (λ x. Ok j x) (t (v .0))
+        either-forward (λ x p. read i x p) (λ x. encode i x) (λ x. Ok i x) (λ x p. read j x p) (λ x. encode j x) (λ x. Ok j x) (t (v .0)) unspelled
             (λ x o w p q. forward i (and-l (clear i) (clear j) k) x o w p q) (λ x o w p q. forward j (and-r (clear i) (clear j) k) x o w p q)
             (v .1) (ok .1) w (b + length x) (omega arith),
       )

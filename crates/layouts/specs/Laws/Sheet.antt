@@ -18,10 +18,10 @@ use Rattle.heads.specs.Laws.Head.{length-tlv, octets-some, unspelled}
 use Rattle.contents.specs.Content.{fine, judge}
 use Rattle.contents.specs.Leaves.{Leaf, ruleOf, sectionOf}
 use Rattle.contents.specs.Laws.Leaves.{by-judge, value-there, value-back, section-near}
-use Rattle.layouts.specs.Layout.{Item, leaf, node, list, wrap, Members, end, _▸_, Member, known, one, maybe, flag, choose, All, InOption, InEither, Ok, Oks, OkPart, each, option, either, encodeLeaf, critical, encode, encodes, encodePart}
-use Rattle.layouts.specs.Reading.{next, readEither}
+use Rattle.layouts.specs.Layout.{Item, leaf, node, list, wrap, Members, end, _▸_, Member, known, one, maybe, flag, choose, All, InOption, Ok, Oks, OkPart, each, option, either, encodeLeaf, critical, encode, encodes, encodePart}
+use Rattle.layouts.specs.Reading.{next}
 use Rattle.layouts.specs.Sheet.{count-bytes, count, section, criticalByte, sheetOption, sheetList, sheet, sheets, sheetPart, readCount, readSection, fillLeaf, times, criticalIn, fillFlag, fillOption, fillList, fill, fills, fillPart}
-use Rattle.layouts.specs.Laws.Reading.{tells, spare, clear, clears, clearPart, Written, Backward, glue, either-back}
+use Rattle.layouts.specs.Laws.Reading.{tells, spare, clear, clears, clearPart, Forward, Written, Backward, glue, either-forward, either-back}
 
 -- ---- counts and sections
 
@@ -60,12 +60,9 @@ section-back w p x e =
     rw (← good-inj e₃, append-assoc (count (length (take (n .0) (n .1)))) (take (n .0) (n .1)) (drop (n .0) (n .1)), take-append-drop (n .0) (n .1), l)
     (q, omega (arith, length-append (count (n .0)) (take (n .0) (n .1)), length-count (n .0)))
 
--- ---- what the laws say of a sheet's reader and writer
+-- ---- a leaf
 
-abbrev Filled : {A : Type 0} → (List ℕ → ℕ → Res (Got A)) → (A → List ℕ) → (A → Type 0) → Type 0
-Filled {A} f e P = (a : A) → P a → (w : List ℕ) (p : ℕ) → length (e a) < uncounted → f (e a ++ w) p ≡ good (got a w (p + length (e a)))
-
-leaf-filled : (l : Leaf) → Filled (fillLeaf l) (λ v. section (sectionOf (l .holds) v)) (λ v. ruleOf (l .holds) v ≡ fine)
+leaf-filled : (l : Leaf) → Forward uncounted (fillLeaf l) (λ v. section (sectionOf (l .holds) v)) (λ v. ruleOf (l .holds) v ≡ fine)
 unfolding fillLeaf bind have judge
 leaf-filled l v ok w p h =
     let x : List ℕ = sectionOf (l .holds) v in
@@ -95,7 +92,7 @@ byte-criticalIn x v e =
     (λ g. let q : some true ≡ some v = sym (pick-yes (same x (1 ∷ [])) _ _ g) ∙ sym (pick-no (same x (0 ∷ [])) _ _ h) ∙ e in let u : true ≡ v = cc in rw (← u) (sym (same-eq x (1 ∷ []) g)))
     (λ g. let q : none ≡ some v = sym (pick-no (same x (1 ∷ [])) _ _ g) ∙ sym (pick-no (same x (0 ∷ [])) _ _ h) ∙ e in never (cc)))
 
-flag-filled : Filled fillFlag (λ v. section (criticalByte v)) (λ v. Unit {0})
+flag-filled : Forward uncounted fillFlag (λ v. section (criticalByte v)) (λ v. Unit {0})
 unfolding fillFlag bind have
 flag-filled v ok w p h =
     let m = length-section (criticalByte v) in
@@ -123,7 +120,7 @@ count-enough false [] h = h
 count-enough false (x ∷ xs) h = tt
 
 module _ {A : Type 0} (f : List ℕ → ℕ → Res (Got A)) (e : A → List ℕ) (P : A → Type 0) where
-  option-filled : Filled f e P → Filled (fillOption f) (sheetOption e) (InOption P)
+  option-filled : Forward uncounted f e P → Forward uncounted (fillOption f) (sheetOption e) (InOption P)
   unfolding fillOption sheetOption bind pick need
   option-filled fw none ok w p h =
       rw (count-there 0 p w (omega arith)) (ap (λ (m : ℕ). good (got none w m)) (omega (arith, length-count 0)))
@@ -146,7 +143,7 @@ module _ {A : Type 0} (f : List ℕ → ℕ → Res (Got A)) (e : A → List ℕ
       let y = glue w (count 1) (e (a .value)) (n .1) (a .rest) p (p + 4) (a .after) (rw z at c) (b .0) (omega (arith, length-count 1)) (b .2) in
       rw (← good-inj e₅) (y .0, b .1, y .1))
 
-  times-filled : Filled f e P → (xs : List A) → All P xs → (w : List ℕ) (p : ℕ) → length (each e xs) < uncounted → times f (length xs) (each e xs ++ w) p ≡ good (got xs w (p + length (each e xs)))
+  times-filled : Forward uncounted f e P → (xs : List A) → All P xs → (w : List ℕ) (p : ℕ) → length (each e xs) < uncounted → times f (length xs) (each e xs ++ w) p ≡ good (got xs w (p + length (each e xs)))
   unfolding times each bind
   times-filled fw [] ok w p h = ap (λ (m : ℕ). good (got [] w m)) (omega arith)
   times-filled fw (x ∷ xs) ok w p h =
@@ -164,7 +161,7 @@ module _ {A : Type 0} (f : List ℕ → ℕ → Res (Got A)) (e : A → List ℕ
       let y = glue w (e (a .value)) (each e (b .value)) (a .rest) (b .rest) p (a .after) (b .after) (u .0) (v .1 .0) (u .2) (v .1 .2) in
       rw (← good-inj e₄) (ap suc (v .0), (y .0, (u .1, v .1 .1), y .1))
 
-  list-filled : Filled f e P → (k : Bool) (m : ℕ) → m < 65536 → Filled (fillList k m f) (sheetList e) (λ xs. T (enough k xs) × (length xs ≤ m) × All P xs)
+  list-filled : Forward uncounted f e P → (k : Bool) (m : ℕ) → m < 65536 → Forward uncounted (fillList k m f) (sheetList e) (λ xs. T (enough k xs) × (length xs ≤ m) × All P xs)
   unfolding fillList sheetList bind need
   list-filled fw k m b xs ok w p h =
       let n = length-append (count (length xs)) (each e xs) in
@@ -183,18 +180,12 @@ module _ {A : Type 0} (f : List ℕ → ℕ → Res (Got A)) (e : A → List ℕ
       let l : n .0 ≤ m = leb→le (n .0) m g in
       (rw (t .0) (y .0), (count-enough k (x .value) (rw (t .0) h), omega arith, t .1 .1), rw (t .0) (y .1))
 
-module _ {A B : Type 0} (f : List ℕ → ℕ → Res (Got A)) (e : A → List ℕ) (P : A → Type 0) (g : List ℕ → ℕ → Res (Got B)) (d : B → List ℕ) (Q : B → Type 0) (t : Bool) where
-  either-filled : Filled f e P → Filled g d Q → Filled (readEither t f g) (either e d) (InEither t P Q)
-  unfolding readEither either bind
-  either-filled fw gw (inl a) ok w p l = pick-yes t _ _ (ok .0) ∙ rw (fw a (ok .1) w p l)
-  either-filled fw gw (inr a) ok w p l = pick-no t _ _ (ok .0) ∙ rw (gw a (ok .1) w p l)
-
 -- ---- every layout
 
 mutual
   unfolding fill sheet clear bind
 
-  pub filled : (i : Item) → T (clear i) → Filled (λ w p. fill i w p) (λ v. sheet i v) (λ v. Ok i v)
+  pub filled : (i : Item) → T (clear i) → Forward uncounted (λ w p. fill i w p) (λ v. sheet i v) (λ v. Ok i v)
   filled (leaf l) k v ok w p h = leaf-filled l v ok w p h
   filled (node t r) k v ok w p h = filleds r (and-r (leb (spare r) 16) (clears r) k) v ok w p h
   filled (list t e n f i) k vs ok w p h =
@@ -202,7 +193,7 @@ mutual
       (ltb→lt n 65536 (and-l (ltb n 65536) (clear i) k)) vs ok w p h
   filled (wrap t i) k v ok w p h = filled i k v ok w p h
 
-  pub filleds : (r : Members) → T (clears r) → Filled (λ w p. fills r w p) (λ v. sheets r v) (λ v. Oks r v)
+  pub filleds : (r : Members) → T (clears r) → Forward uncounted (λ w p. fills r w p) (λ v. sheets r v) (λ v. Oks r v)
   filleds end k v ok w p h = ap (λ (m : ℕ). good (got v w m)) (omega arith)
   filleds (m ▸ r) k v ok w p h =
       let x : List ℕ = sheetPart m (v .0) in
@@ -212,7 +203,7 @@ mutual
       rw (append-assoc x y w, filledPart m (and-l (clearPart m) (clears r) k′) (v .0) (ok .0) (y ++ w) p (omega arith), filleds r (and-r (clearPart m) (clears r) k′) (v .1) (ok .1) w (p + length x) (omega arith))
       (ap (λ (m : ℕ). good (got v w m)) (omega arith))
 
-  pub filledPart : (m : Member) → T (clearPart m) → Filled (λ w p. fillPart m w p) (λ v. sheetPart m v) (λ v. OkPart m v)
+  pub filledPart : (m : Member) → T (clearPart m) → Forward uncounted (λ w p. fillPart m w p) (λ v. sheetPart m v) (λ v. OkPart m v)
   filledPart (known x) k v ok w p h = ap (λ (m : ℕ). good (got v w m)) (omega arith)
   filledPart (one f i) k v ok w p h = filled i k v ok w p h
   filledPart (maybe f i) k v ok w p h = option-filled (λ x q. fill i x q) (λ x. sheet i x) (λ x. Ok i x) (λ x o w q g. filled i k x o w q g) v ok w p h
@@ -224,7 +215,7 @@ mutual
       rw (
         append-assoc x y w,
         leaf-filled l (v .0) (ok .0) (y ++ w) p (omega arith),
-        either-filled (λ x q. fill i x q) (λ x. sheet i x) (λ x. Ok i x) (λ x q. fill j x q) (λ x. sheet j x) (λ x. Ok j x) (t (v .0))
+        either-forward (λ x q. fill i x q) (λ x. sheet i x) (λ x. Ok i x) (λ x q. fill j x q) (λ x. sheet j x) (λ x. Ok j x) (t (v .0)) uncounted
             (λ x o w q g. filled i (and-l (clear i) (clear j) k) x o w q g) (λ x o w q g. filled j (and-r (clear i) (clear j) k) x o w q g)
             (v .1) (ok .1) w (p + length x) (omega arith),
       )

@@ -2,16 +2,15 @@
 use mathlib.Core.Path.{_≡_, refl, sym, ap, _∙_, subst}
 use Prim.Native.Nat.{ℕ, suc, zero, _+_, _*_, _/_, _%_, _^_, _≤_, _<_}
 use native.Mathlib.Omega.{arith}
-use native.Mathlib.Nat.{pow-zero, pow-succ', mul-assoc, mul-comm, add-assoc, add-mul, mod-one, div-one, mod-eq-of-lt, div-div-eq-div-mul}
+use native.Mathlib.Nat.{mul-comm, div-one, mod-eq-of-lt, div-div-eq-div-mul}
 use mathlib.Core.Bool.{Bool, true, false, not, _&&_, and-true}
 use mathlib.Core.List.{List, [], _∷_, _++_, map}
 use lib.ListN.{length, drop, length-append, length-map}
-use lib.Arith.{mod-mul}
 use lib.Pow.{pow-add}
 use borrow.Author.Tests.{le-leb, lt-ltb, le-ltb, not-true, not-false}
 use Rattle.terms.specs.Answer.{pick}
-use Rattle.terms.specs.Digits.{digits}
-use Rattle.terms.specs.Laws.Digits.{pow-pos, length-digits}
+use Rattle.terms.specs.Digits.{digits, numberFrom}
+use Rattle.terms.specs.Laws.Digits.{number-digits, length-digits}
 use Rattle.contents.specs.Content.{passes}
 use Rattle.contents.specs.Time.{year-digits, monthLength, isDigit, timeFrom, timeRule, written, isReal}
 use Rattle.times.specs.declared.Parsed.{Parsed}
@@ -28,21 +27,14 @@ char-digit : (x : ℕ) (w : List ℕ) → x < 10 → firstDigit ((0x30 + x) ∷ 
 unfolding firstDigit isDigit pick
 char-digit x w h = rw (le-leb 0x30 (0x30 + x) (omega arith), le-leb (0x30 + x) 0x39 (omega arith)) (ap Number (omega arith))
 
--- one digit more of a number past its last `j`
-digit-on : (k j a n : ℕ) → (a * 10 + n / 10 ^ (k + j) % 10) * 10 ^ k + n / 10 ^ j % 10 ^ k ≡ a * 10 ^ suc k + n / 10 ^ j % 10 ^ suc k
-digit-on k j a n =
-    let ten : 0 < 10 = omega arith in
-    let d : n / 10 ^ (k + j) ≡ n / 10 ^ j / 10 ^ k = rw (pow-add 10 k j, mul-comm (10 ^ k) (10 ^ j)) (sym (div-div-eq-div-mul n (10 ^ j) (10 ^ k))) in
-    rw (d, pow-succ' 10 k, mod-mul (n / 10 ^ j) {m = 10} {c = 10 ^ k} ten (pow-pos ten k), add-mul, mul-assoc, add-assoc) refl
-
 -- the first `k` of `k` and `j` digits
-plain-chars : (k j a n : ℕ) (z : List ℕ) → plain k a (chars (k + j) n ++ z) ≡ Number (a * 10 ^ k + n / 10 ^ j % 10 ^ k)
-unfolding plain after digits
-plain-chars zero j a n z = ap Number (rw (pow-zero 10, mod-one (n / 10 ^ j)) (omega arith))
+plain-chars : (k j a n : ℕ) (z : List ℕ) → plain k a (chars (k + j) n ++ z) ≡ Number (numberFrom 10 a (digits 10 k (n / 10 ^ j)))
+unfolding plain after digits numberFrom
+plain-chars zero j a n z = refl
 plain-chars (suc k) j a n z =
     let q : suc k + j ≡ suc (k + j) = omega arith in
-    rw (q, char-digit (n / 10 ^ (k + j) % 10) (chars (k + j) n ++ z) (omega arith))
-    (plain-chars k j (a * 10 + n / 10 ^ (k + j) % 10) n z ∙ ap Number (digit-on k j a n))
+    let d : n / 10 ^ j / 10 ^ k ≡ n / 10 ^ (k + j) = rw (pow-add 10 k j, mul-comm (10 ^ k) (10 ^ j)) (div-div-eq-div-mul n (10 ^ j) (10 ^ k)) in
+    rw (q, d, char-digit (n / 10 ^ (k + j) % 10) (chars (k + j) n ++ z) (omega arith)) (plain-chars k j (a * 10 + n / 10 ^ (k + j) % 10) n z)
 
 -- the last `j` of `i` and `j` digits
 drop-chars : (i j n : ℕ) (z : List ℕ) → drop i (chars (i + j) n ++ z) ≡ chars j n ++ z
@@ -61,7 +53,7 @@ module _ (n k low high i j : ℕ) (whole : i + (k + j) ≡ 14) (some-way : low <
   unfolding after
   part-written =
       part-plain k low high i (written n) some-way
-      ∙ rw (after-written n i (k + j) whole, plain-chars k j 0 n (0x5A ∷ []))
+      ∙ rw (after-written n i (k + j) whole, plain-chars k j 0 n (0x5A ∷ []), number-digits 10 (omega arith) k 0 (n / 10 ^ j))
       (ap (within low high) (let z : 0 * 10 ^ k + n / 10 ^ j % 10 ^ k ≡ n / 10 ^ j % 10 ^ k = omega arith in z))
 
   there-part : (f : ℕ → Parsed) → there (after (partAt k low high i (written n)) f) ≡ inside low high (n / 10 ^ j % 10 ^ k) && there (f (n / 10 ^ j % 10 ^ k))
