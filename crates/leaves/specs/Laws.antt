@@ -1,11 +1,13 @@
 -- A primitive item by its head and its rule. Assumes nothing.
 use mathlib.Core.Path.{_≡_, refl, sym, ap, _∙_}
-use Prim.Native.Nat.{ℕ, suc, zero, _+_, _-_, _≤_}
+use Prim.Native.Nat.{ℕ, suc, zero, _+_, _-_, _*_, _^_, _≤_, _<_}
 use native.Mathlib.Omega.{arith}
 use mathlib.Core.Bool.{Bool}
 use mathlib.Core.List.{List, [], _∷_}
 use lib.ListN.{length, take, length-append, length-drop}
 use lib.Seq.{slice}
+use mir.Syntax.{w64}
+use mir.Val.{Fits}
 use Rattle.terms.specs.Answer.{Res, good, fault, same}
 use Rattle.terms.specs.Laws.Answer.{never}
 use Rattle.heads.specs.Head.{forms, Cut, head, tlv, before}
@@ -46,7 +48,7 @@ take-short (suc n) [] = omega arith
 take-short (suc n) (x ∷ l) = let h = take-short n l in omega arith
 
 -- a head ends in the slice
-pub head-inside : (t : ℕ) (s : List ℕ) (p e a z : ℕ) (x : Seen) → x ≡ headAt t s p e → x ≡ Item a z → a ≤ length s
+head-inside : (t : ℕ) (s : List ℕ) (p e a z : ℕ) (x : Seen) → x ≡ headAt t s p e → x ≡ Item a z → a ≤ length s
 unfolding headAt
 head-inside t s p e a z x i j = go (head forms t (slice p e s) p) refl (sym i ∙ j)
   where
@@ -61,6 +63,10 @@ head-inside t s p e a z x i j = go (head forms t (slice p e s) p) refl (sym i �
         let r = b .1 in
         omega arith
     go (fault n q) o g = never (cc)
+
+-- so there is room for the byte that a content may begin with, since a slice takes less than 2 ^ 63 bytes
+pub fits-behind : (t : ℕ) (s : List ℕ) (p e a z n : ℕ) (x : Seen) → x ≡ headAt t s p e → x ≡ Item a z → n ≤ 1 → length s * 1 < 2 ^ 63 → Fits w64 (a + n)
+fits-behind t s p e a z n x i j h l = record { fits = omega (arith, head-inside t s p e a z x i j) }
 
 -- ---- by the case of an enum
 

@@ -3,7 +3,7 @@ use mathlib.Core.Path.{_≡_}
 use Prim.Native.Nat.{_-_, _≤_}
 use lib.ListN.{length}
 use borrow.Author.Needs.{needs}
-use Rattle.check_record.specs.Laws.{moved, inside, less, filled}
+use Rattle.check_record.specs.Laws.{fits-more, inside, less, filled}
 use Rattle.check_record.proofs.fill.Statement.{statement}
 use Rattle.check_record.proofs.fill.Tie as tie
 
@@ -23,7 +23,7 @@ enum-known-read : tie.Need-enum-known-read Inv-loop μ-loop
 enum-known-read c = search needs
 
 add-n : tie.Need-add-n Inv-loop μ-loop
-add-n c = let m = moved _ _ _ _ (c .before .read .given .1) (c .before .before .before .before .before .read-some .ensures .0) in search needs
+add-n c = search (needs, fits-more)
 
 loop-less : tie.Need-loop-less Inv-loop μ-loop
 loop-less c = search (needs, less)

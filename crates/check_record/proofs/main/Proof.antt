@@ -1,5 +1,5 @@
 -- `check_record::main`: what was filled is a part of the input.
-use Rattle.check_record.specs.Laws.{counted}
+use Rattle.check_record.specs.Laws.{counted-within, counted-taken}
 use borrow.Author.Needs.{needs}
 use Rattle.check_record.proofs.main.Statement.{statement}
 use Rattle.check_record.proofs.main.Tie as tie
@@ -26,10 +26,10 @@ returns : tie.Need-returns
 returns c = search needs
 
 array-share-prefix-input : tie.Need-array-share-prefix-input
-array-share-prefix-input c = let m = counted _ _ _ (c .before .n .given .1) (c .before .before .before .before .fill .ensures) in search needs
+array-share-prefix-input c = search (needs, counted-within)
 
 slice-aggregate-check-signature : tie.Need-slice-aggregate-check-signature
-slice-aggregate-check-signature c = let m = counted _ _ _ (c .before .before .n .given .1) (c .before .before .before .before .before .fill .ensures) in search needs
+slice-aggregate-check-signature c = search (needs, counted-taken)
 
 check-signature-requires : tie.Need-check-signature-requires
 check-signature-requires c κs = search needs

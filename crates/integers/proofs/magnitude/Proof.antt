@@ -1,7 +1,7 @@
 -- `integers::magnitude`: after each turn the digits that are left lead to the same number.
 use Prim.Native.Nat.{_-_}
 use lib.ListN.{length}
-use Rattle.integers.specs.Laws.Number.{Going, starts, turns, small, room-for-one, ends}
+use Rattle.integers.specs.Laws.Number.{Going, starts, turns, small, fits-scaled, fits-more, ends}
 use native.Mathlib.Omega.{arith}
 use borrow.Author.Needs.{needs}
 use Rattle.integers.proofs.magnitude.Statement.{statement}
@@ -23,7 +23,7 @@ loop-holds : tie.Need-loop-holds Inv-loop μ-loop
 loop-holds c = starts (omega arith) (omega arith) (c .digit .ensures .0) (omega arith)
 
 mul-m : tie.Need-mul-m Inv-loop μ-loop
-mul-m c = omega (arith, room-for-one (c .before .loop .inv) (omega arith))
+mul-m c = search (needs, fits-scaled)
 
 shared-slice-read-digit-2 : tie.Need-shared-slice-read-digit-2 Inv-loop μ-loop
 shared-slice-read-digit-2 c = search needs
@@ -32,7 +32,7 @@ digit-requires-2 : tie.Need-digit-requires-2 Inv-loop μ-loop
 digit-requires-2 c κs = search needs
 
 add-m : tie.Need-add-m Inv-loop μ-loop
-add-m c = omega (arith, room-for-one (c .before .before .before .loop .inv) (omega arith))
+add-m c = search (needs, fits-more)
 
 add-i : tie.Need-add-i Inv-loop μ-loop
 add-i c = search needs

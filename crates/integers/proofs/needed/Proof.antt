@@ -1,7 +1,6 @@
 -- `integers::needed`: the bytes that are left from each turn on have the same content.
 use Rattle.integers.specs.Laws.Number.{shrink-on, shrink-stops, shrink-last}
-use native.Mathlib.Omega.{arith}
-use mathlib.Core.Path.{_≡_, refl}
+use mathlib.Core.Path.{_≡_}
 use Rattle.contents.specs.Integer.{shrink}
 use lib.ListN.{length, drop}
 use Prim.Native.Nat.{_≤_, _-_}
@@ -16,7 +15,7 @@ abbrev μ-loop : tie.MeasureT-loop
 μ-loop b i₀ i = 7 - i
 
 loop-holds : tie.Need-loop-holds Inv-loop μ-loop
-loop-holds c = (search needs, search needs, refl)
+loop-holds c = search needs
 
 array-read-is-needed : tie.Need-array-read-is-needed Inv-loop μ-loop
 array-read-is-needed c = search needs
@@ -34,7 +33,7 @@ sub-result : tie.Need-sub-result Inv-loop μ-loop
 sub-result c = search needs
 
 returns : tie.Need-returns Inv-loop μ-loop
-returns c = shrink-stops _ (c .before .before .before .loop .i) _ _ (omega arith) (c .before .before .before .loop .inv .2) (c .before .is-needed .ensures) (c .if1 .taken) (omega arith)
+returns c = search (needs, shrink-stops)
 
 add-i : tie.Need-add-i Inv-loop μ-loop
 add-i c = search needs
@@ -43,10 +42,10 @@ loop-less : tie.Need-loop-less Inv-loop μ-loop
 loop-less c = search needs
 
 loop-again : tie.Need-loop-again Inv-loop μ-loop
-loop-again c = (search needs, search needs, shrink-on _ (c .before .before .before .loop .i) _ (omega arith) (c .before .before .before .loop .inv .2) (c .before .is-needed .ensures) (c .if1 .left))
+loop-again c = search (needs, shrink-on)
 
 returns-2 : tie.Need-returns-2 Inv-loop μ-loop
-returns-2 c = shrink-last _ (c .before .loop .i) (omega arith) (c .before .loop .inv .2)
+returns-2 c = search (needs, shrink-last)
 
 pub needed-spec : {M : Type 1} → statement M
 needed-spec =

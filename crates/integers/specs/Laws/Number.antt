@@ -12,7 +12,7 @@ use lib.Signed.{leZ, ltZ, mag}
 use lib.IntN.{ℤ, pos, negsuc, _-ℤ_}
 use lib.Dec.{eqb}
 use mir.Syntax.{w64}
-use mir.Val.{toZ, ofZ, SFits}
+use mir.Val.{toZ, ofZ, Fits, SFits}
 use mir.Facts.{toZ-pos, toZ-ofZ}
 use borrow.Author.Tests.{lt-ltb, le-ltb, le-leb, lt-leb, not-true, not-false}
 use Rattle.terms.specs.Numbers.{bad-integer, not-allowed}
@@ -83,8 +83,14 @@ module _ {neg : Bool} {c : List ℕ} where
   pub small : {m i : ℕ} → Going neg c m i → m < 2 ^ 63
   small {m} {i} g = bound m (8 - i) (g .room)
 
-  pub room-for-one : {m i : ℕ} → Going neg c m i → i < length c → m * 256 + 255 < 2 ^ 63
+  room-for-one : {m i : ℕ} → Going neg c m i → i < length c → m * 256 + 255 < 2 ^ 63
   room-for-one {m} {i} g h = bound (m * 256 + 255) (8 - (i + 1)) (le-trans (less-room m 255 i (omega (arith, g .few)) (omega arith)) (g .room))
+
+  pub fits-scaled : {m i : ℕ} → Going neg c m i → i < length c → Fits w64 (m * 256)
+  fits-scaled g h = record { fits = omega (arith, room-for-one g h) }
+
+  pub fits-more : {m i d : ℕ} → Going neg c m i → i < length c → d < 256 → Fits w64 (m * 256 + d)
+  fits-more g h l = record { fits = omega (arith, room-for-one g h) }
 
   pub ends : {m i : ℕ} → Going neg c m i → length c ≤ i → m ≡ number 256 (turnedIf neg c)
   ends {m} {i} g h = sym (no-digits neg c m i h) ∙ g .rest
@@ -161,7 +167,7 @@ module _ (c : List ℕ) where
   some-byte t e h = go c (sym e ∙ not-false t h)
     where
       go : (x : List ℕ) → shortest x ≡ true → 0 < length x
-      go [] f = let z : _≡_ {A = ℕ} 0 1 = cc in omega arith
+      go [] f = never (cc)
       go (a ∷ x) f = omega arith
 
   value-low : getD c 0 0 < 128 → 0 < length c → value c ≡ pos (number 256 c)
@@ -304,19 +310,19 @@ module _ (x : List ℕ) where
       rw (a, b)
 
   -- what is left from here on is the whole answer
-  pub shrink-on : (i : ℕ) (t : Bool) → i + 1 < length x → shrink x ≡ shrink (drop i x) → t ≡ not (eqb (getD x i 0) (sign (getD x (i + 1) 0))) → t ≡ false → shrink x ≡ shrink (drop (i + 1) x)
+  pub shrink-on : (i : ℕ) (t : Bool) → i < 7 → length x ≡ 8 → shrink x ≡ shrink (drop i x) → t ≡ not (eqb (getD x i 0) (sign (getD x (i + 1) 0))) → t ≡ false → shrink x ≡ shrink (drop (i + 1) x)
   unfolding pick
-  shrink-on i t h e f g = e ∙ shrink-at i h ∙ rw (not-false (eqb (getD x i 0) (sign (getD x (i + 1) 0))) (sym f ∙ g))
+  shrink-on i t h l e f g = e ∙ shrink-at i (omega arith) ∙ rw (not-false (eqb (getD x i 0) (sign (getD x (i + 1) 0))) (sym f ∙ g))
 
-  pub shrink-stops : (i n : ℕ) (t : Bool) → i + 1 < length x → shrink x ≡ shrink (drop i x) → t ≡ not (eqb (getD x i 0) (sign (getD x (i + 1) 0))) → t ≡ true → n ≡ length x - i → n ≡ length (shrink x)
+  pub shrink-stops : (i : ℕ) (t : Bool) → i < 7 → length x ≡ 8 → shrink x ≡ shrink (drop i x) → t ≡ not (eqb (getD x i 0) (sign (getD x (i + 1) 0))) → t ≡ true → 8 - i ≡ length (shrink x)
   unfolding pick
-  shrink-stops i n t h e f g k =
-      let q : shrink x ≡ drop i x = e ∙ shrink-at i h ∙ rw (not-true (eqb (getD x i 0) (sign (getD x (i + 1) 0))) (sym f ∙ g)) in
-      k ∙ sym (rw q (length-drop i x))
+  shrink-stops i t h l e f g =
+      let q : shrink x ≡ drop i x = e ∙ shrink-at i (omega arith) ∙ rw (not-true (eqb (getD x i 0) (sign (getD x (i + 1) 0))) (sym f ∙ g)) in
+      sym (rw (q, ← l) (length-drop i x))
 
-  pub shrink-last : (i : ℕ) → length x ≡ i + 1 → shrink x ≡ shrink (drop i x) → 1 ≡ length (shrink x)
+  pub shrink-last : (i : ℕ) → 7 ≤ i → i ≤ 7 → length x ≡ 8 → shrink x ≡ shrink (drop i x) → 1 ≡ length (shrink x)
   unfolding shrink
-  shrink-last i h e = sym (rw e (go (drop i x) (length-drop i x ∙ omega arith)))
+  shrink-last i h h′ l e = sym (rw e (go (drop i x) (length-drop i x ∙ omega arith)))
     where
       go : (y : List ℕ) → length y ≡ 1 → length (shrink y) ≡ 1
       go [] k = k

@@ -1,5 +1,5 @@
 -- `leaves::leaf`: the head, then the rule of its content; its value stands behind what its content begins with.
-use Rattle.leaves.specs.Laws.{leaf-refused, leaf-judged, head-inside}
+use Rattle.leaves.specs.Laws.{leaf-refused, leaf-judged, fits-behind}
 use borrow.Author.Needs.{needs}
 use Rattle.leaves.proofs.leaf.Statement.{statement}
 use Rattle.leaves.proofs.leaf.Tie as tie
@@ -26,7 +26,7 @@ hidden-of-requires : tie.Need-hidden-of-requires
 hidden-of-requires c κs = search needs
 
 add-judged : tie.Need-add-judged
-add-judged c = let m = head-inside _ _ _ _ _ _ _ (c .before .before .before .before .before .head .ensures) (c .before .before .before .h .given .1) in search needs
+add-judged c = search (needs, fits-behind)
 
 judged-requires : tie.Need-judged-requires
 judged-requires c κs = search needs

@@ -1,8 +1,7 @@
 -- `times::part_at` reads all digits, then tests the bounds; `all-first` says that the machine of the rules comes to the same. The loop's invariant: what is left to read leads to the whole.
 use Prim.Native.Nat.{_-_}
-use native.Mathlib.Omega.{arith}
 use borrow.Author.Needs.{needs}
-use Rattle.times.specs.Laws.Parts.{Going, starts, stops, turns, ends, room, at-most, part-none, part-out, part-in, inside-most}
+use Rattle.times.specs.Laws.Parts.{Going, starts, stops, turns, ends, fits-scaled, fits-more, at-most, part-none, part-out, part-in, inside-most}
 use Rattle.times.proofs.part_at.Statement.{statement}
 use Rattle.times.proofs.part_at.Tie as tie
 
@@ -31,10 +30,10 @@ returns : tie.Need-returns Inv-loop μ-loop
 returns c = (search (needs, part-none, stops), tt)
 
 mul-n : tie.Need-mul-n Inv-loop μ-loop
-mul-n c = omega (arith, room (c .before .before .before .before .before .loop .inv) (omega arith) (omega arith))
+mul-n c = search (needs, fits-scaled)
 
 add-n : tie.Need-add-n Inv-loop μ-loop
-add-n c = omega (arith, room (c .before .before .before .before .before .loop .inv) (omega arith) (omega arith), at-most (c .before .before .before .digit-at .ensures .1) (c .before .x .given .1))
+add-n c = search (needs, fits-more)
 
 add-j : tie.Need-add-j Inv-loop μ-loop
 add-j c = search needs

@@ -9,6 +9,8 @@ use mathlib.Core.List.{List, [], _∷_}
 use lib.ListN.{length, getD, drop, drop-of-length-le}
 use lib.Seq.{drop-cons, drop-drop}
 use lib.Dec.{T, leb, leb→le, ltb→lt, le→leb, lt→ltb, leb·suc-suc}
+use mir.Syntax.{w64}
+use mir.Val.{Fits}
 use borrow.Author.Tests.{le-leb, lt-leb, not-true, not-false}
 use Rattle.terms.specs.Answer.{pick, need}
 use Rattle.terms.specs.Laws.Answer.{never, test, and-l, and-r, both, is-true, is-false, pick-yes, pick-no}
@@ -150,8 +152,14 @@ few-small n (suc (suc zero)) h l = omega arith
 few-small n (suc (suc (suc zero))) h l = omega arith
 few-small n (suc (suc (suc (suc j)))) h l = absurd (omega arith)
 
-pub room : {k i n j : ℕ} {w : List ℕ} → Going k i w n j → j < k → k ≤ 4 → n < 1000
+room : {k i n j : ℕ} {w : List ℕ} → Going k i w n j → j < k → k ≤ 4 → n < 1000
 room {k} {i} {n} {j} g h l = few-small n j (g .small) (omega arith)
+
+pub fits-scaled : {k i n j : ℕ} {w : List ℕ} → Going k i w n j → j < k → k ≤ 4 → Fits w64 (n * 10)
+fits-scaled g h l = record { fits = omega (arith, room g h l) }
+
+pub fits-more : {k i n j x : ℕ} {w : List ℕ} {r : Parsed} → Going k i w n j → j < k → k ≤ 4 → AtMost 9 r → r ≡ Number x → Fits w64 (n * 10 + x)
+fits-more g h l m e = record { fits = omega (arith, room g h l, at-most m e) }
 
 module _ (k low high i : ℕ) (w : List ℕ) (some-way : low < 10 ^ k) where
   -- the whole part
