@@ -13,9 +13,9 @@ use Rattle.terms.specs.declared.Field.{Field}
 use Rattle.terms.specs.Numbers.{largest-record}
 use Rattle.terms.specs.Answer.{Res, good, fault, bind, pick, answered}
 use Rattle.terms.specs.Laws.Answer.{never, good-inj}
-use Rattle.layouts.specs.Layout.{Members, Values, All}
+use Rattle.layouts.specs.Layout.{Members, Values, Oks}
 use Rattle.layouts.specs.Fields.{Entry, fields, isField, first, Stands}
-use Rattle.layouts.specs.Laws.Fields.{Sought, fields-stand, stands-within, first-sought, first-holds}
+use Rattle.layouts.specs.Laws.Fields.{First, fields-stand, stands-within, stands-cut, first-sought, first-holds}
 use Rattle.layouts.specs.Places.{slot, under, numbersOf, Placed}
 use Rattle.layouts.specs.Whole.{accept, recordOf, toldOutcome}
 use Rattle.layouts.specs.Laws.Whole.{accept-back}
@@ -23,7 +23,7 @@ use Rattle.layouts.specs.declared.Outcome.{Outcome}
 use Rattle.layouts.specs.declared.Outcome.the-variants.{Length, Refused as Unread}
 use Rattle.records.specs.declared.Part.{Part}
 use Rattle.records.specs.declared.Part.the-variants.{There, Absent, Refused}
-use Rattle.records.specs.Handing.{toldRecord, readRecord, fieldsOf, seek, tell, toldPlace, toldPart, handedOut}
+use Rattle.records.specs.Handing.{toldRecord, readRecord, fieldsOf, fieldsIn, seek, tell, toldPlace, toldPart, handedOut}
 use Rattle.records.specs.Part.{PartOf}
 use Rattle.fields.specs.Handed.{partOf, partUnder, spanOf, within}
 
@@ -61,19 +61,47 @@ told-is (fault m q) (There a n) h = never (cc)
 told-is (fault m q) Absent h = never (cc)
 told-is (fault m q) (Refused n p) h = cc
 
--- a field that is sought lies in the record
-module _ (r : Members) (q : Entry → Bool) (w : List ℕ) where
-  sought-within : (x : Entry) → seek r q w ≡ good (some x) → x .place + length (x .bytes) ≤ length w
-  unfolding seek bind
-  sought-within x e = go (readRecord r w) refl e
+-- what was sought, by the answer
+module _ (e : Res (Option Entry)) (y : Part) (h : toldPart y ≡ tell toldPlace e) where
+  pub is-there : (a l : ℕ) → y ≡ There a l → (x : Entry) × (e ≡ good (some x)) × (x .place ≡ a) × (length (x .bytes) ≡ l)
+  is-there a l i = go e (told-is e y h)
     where
-      go : (y : Res (Values r)) → readRecord r w ≡ y → (bind y λ v. good (first q (fields r v))) ≡ good (some x) → x .place + length (x .bytes) ≤ length w
-      go (good v) g h =
-          stands-within w x
-          (first-holds (Stands w) q (fields r v) x
-          (rw (← accept-back largest-record r w v g .0) at (fields-stand r v))
-          (rw (good-inj h) at (first-sought q (fields r v))))
+      go : (e : Res (Option Entry)) → y ≡ partOf e → (x : Entry) × (e ≡ good (some x)) × (x .place ≡ a) × (length (x .bytes) ≡ l)
+      go (good (some x)) k = (x, refl, cc, cc)
+      go (good none) k = never (cc)
+      go (fault n p) k = never (cc)
+
+  pub is-absent : y ≡ Absent → e ≡ good none
+  is-absent i = go e (told-is e y h)
+    where
+      go : (e : Res (Option Entry)) → y ≡ partOf e → e ≡ good none
+      go (good (some x)) k = never (cc)
+      go (good none) k = refl
+      go (fault n p) k = never (cc)
+
+  pub is-refused : (n p : ℕ) → y ≡ Refused n p → e ≡ fault n p
+  is-refused n p i = go e (told-is e y h)
+    where
+      go : (e : Res (Option Entry)) → y ≡ partOf e → e ≡ fault n p
+      go (good (some x)) k = never (cc)
+      go (good none) k = never (cc)
+      go (fault n′ p′) k = cc
+
+-- a field that is sought is one of the record's, and lies in it
+module _ (r : Members) (q : Entry → Bool) (w : List ℕ) where
+  pub sought-in : (x : Entry) → seek r q w ≡ good (some x) → (v : Values r) × (w ≡ recordOf r v) × Oks r v × First q (fields r v) x
+  unfolding seek bind
+  sought-in x e = go (readRecord r w) refl e
+    where
+      go : (y : Res (Values r)) → readRecord r w ≡ y → (bind y λ v. good (first q (fields r v))) ≡ good (some x) → (v : Values r) × (w ≡ recordOf r v) × Oks r v × First q (fields r v) x
+      go (good v) g h = let b = accept-back largest-record r w v g in (v, b .0, b .1, rw (good-inj h) at (first-sought q (fields r v)))
       go (fault n p) g h = never (cc)
+
+  pub sought-stands : (x : Entry) → seek r q w ≡ good (some x) → Stands w x
+  sought-stands x e = let (v, b, o, f) = sought-in x e in first-holds (Stands w) q (fields r v) x (rw (← b) at (fields-stand r v)) f
+
+  sought-within : (x : Entry) → seek r q w ≡ good (some x) → x .place + length (x .bytes) ≤ length w
+  sought-within x e = stands-within w x (sought-stands x e)
 
   -- so that the part that an answer names is the one that is handed out
   span-handed : (e : Res (Option Entry)) → seek r q w ≡ e → within (length w) (spanOf (partOf e)) ≡ handedOut e
@@ -84,6 +112,10 @@ module _ (r : Members) (q : Entry → Bool) (w : List ℕ) where
 pub part-handed : (s z : RefT (List ℕ)) (r : Members) (q : Entry → Bool) (y : Part) → toldPart y ≡ tell toldPlace (seek r q (s .now)) → PartOf s z (within (length (s .now)) (spanOf y))
     → PartOf s z (handedOut (seek r q (s .now)))
 part-handed s z r q y h k = subst (PartOf s z) (ap (λ (p : Part). within (length (s .now)) (spanOf p)) (told-is (seek r q (s .now)) y h) ∙ span-handed r q (s .now) (seek r q (s .now)) refl) k
+
+-- a part that an answer names holds the field's bytes
+pub part-bytes : (s z : RefT (List ℕ)) (r : Members) (q : Entry → Bool) (x : Entry) → seek r q (s .now) ≡ good (some x) → PartOf s z (within (length (s .now)) (x .place, length (x .bytes))) → z .now ≡ x .bytes
+part-bytes s z r q x e h = let k = rw (within-yes (length (s .now)) (x .place) (length (x .bytes)) (sought-within r q (s .now) x e)) at h in k .holds ∙ stands-cut (s .now) x (sought-stands r q (s .now) x e)
 
 -- ---- a field by the table
 
@@ -116,25 +148,32 @@ numbers-part f d o h = rw (ap (λ (x : List ℕ). getD x 0 0) h, ap (λ (x : Lis
 
 -- what is sought in a record that was read
 module _ (r : Members) (w : List ℕ) (m : Members) (g : m ≡ r) (o : Outcome) (t : toldOutcome o ≡ toldRecord largest-record m w) where
-  read-refused : (n p : ℕ) → o ≡ Unread n p → readRecord r w ≡ fault n p
-  read-refused n p i = go (readRecord r w) (rw (g, i) at t)
+  pub sought-refused : (n p : ℕ) → o ≡ Unread n p → (q : Entry → Bool) → seek r q w ≡ fault n p
+  unfolding seek bind
+  sought-refused n p i q = go (readRecord r w) (rw (g, i) at t)
     where
-      go : (x : Res (Values r)) → toldOutcome (Unread n p) ≡ answered (λ v. length w) x → x ≡ fault n p
+      go : (x : Res (Values r)) → toldOutcome (Unread n p) ≡ answered (λ v. length w) x → (bind x λ v. good (first q (fields r v))) ≡ fault n p
       go (good v) e = never (cc)
       go (fault n′ p′) e = cc
 
-  pub find-refused : (q : Entry → Bool) (n p : ℕ) → o ≡ Unread n p → toldPart (Refused n p) ≡ tell toldPlace (seek r q w)
+  pub sought-read : (l : ℕ) → o ≡ Length l → (q : Entry → Bool) → seek r q w ≡ good (first q (fieldsIn r w))
   unfolding seek bind
-  find-refused q n p i = rw (read-refused n p i)
+  sought-read l i q = go (readRecord r w) (rw (g, i) at t)
+    where
+      go : (x : Res (Values r)) → toldOutcome (Length l) ≡ answered (λ v. length w) x → (bind x λ v. good (first q (fields r v))) ≡ good (first q (fieldsOf r x))
+      go (good v) e = refl
+      go (fault n p) e = never (cc)
+
+  pub placed-in : (k : ℕ) (d : List ℕ) → Placed k (fieldsOf m (accept largest-record m w)) d → Placed k (fieldsIn r w) d
+  placed-in k d p = rw g at p
+
+  pub find-refused : (q : Entry → Bool) (n p : ℕ) → o ≡ Unread n p → toldPart (Refused n p) ≡ tell toldPlace (seek r q w)
+  find-refused q n p i = rw (sought-refused n p i q)
 
   pub find-under : (f : Field) (k l : ℕ) (d : List ℕ) (y : Part) → o ≡ Length l → Placed k (fieldsOf m (accept largest-record m w)) d → y ≡ partUnder f d
       → toldPart y ≡ tell toldPlace (seek r (isField f k) w)
-  unfolding seek bind
-  find-under f k l d y i p e = ap toldPart (e ∙ go (readRecord r w) refl (rw (g, i) at t)) ∙ told-part (seek r (isField f k) w)
-    where
-      go : (x : Res (Values r)) → readRecord r w ≡ x → toldOutcome (Length l) ≡ answered (λ v. length w) x → partUnder f d ≡ partOf (bind x λ v. good (first (isField f k) (fields r v)))
-      go (good v) h e′ = numbers-part f d (first (isField f k) (fields r v)) (rw (g, h) at (p .1 f))
-      go (fault n q) h e′ = never (cc)
+  find-under f k l d y i p e =
+      rw (sought-read l i (isField f k)) (ap toldPart (e ∙ numbers-part f d (first (isField f k) (fieldsIn r w)) (placed-in k d p .1 f)) ∙ told-part (good (first (isField f k) (fieldsIn r w))))
 
 -- ---- a part that is cut
 

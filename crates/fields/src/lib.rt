@@ -2,7 +2,6 @@
 use layouts::Outcome;
 use records::Part;
 use records::Record;
-use structures::Row;
 use terms::Field;
 use terms::LARGEST_RECORD;
 ghost use mathlib.Core.Path.{_≡_};
@@ -10,18 +9,7 @@ ghost use lib.ListN.{length as size};
 ghost use Rattle.layouts.specs.Fields.{isField};
 ghost use Rattle.records.specs.Handing.{layoutOf, seek, tell, toldPlace, handedOut, toldPart};
 ghost use Rattle.records.specs.Part.{PartOf};
-ghost use Rattle.structures.specs.Structure.{rowOf};
 ghost use Rattle.fields.specs.Handed.{partUnder, spanOf, within};
-
-// The row of a record.
-fn row_of(x: Record) -> Row
-    ensures { λ r. ⌜ rowOf r ≡ layoutOf x ⌝ }
-{
-    match x {
-        Record::Seal => Row::Seal,
-        Record::Signature => Row::Signature,
-    }
-}
 
 // What a table of places has under a name.
 pub fn under(places: &[usize], f: Field) -> Part
@@ -72,7 +60,7 @@ pub fn cut_under<'a, 'b>(s: &'a [u8], places: &'b [usize], f: Field) -> &'a [u8]
 pub fn find(s: &[u8], x: Record, f: Field, index: usize) -> Part
     ensures { λ r. ⌜ toldPart r ≡ tell toldPlace (seek (layoutOf x) (isField f index) (now (s .entry))) ⌝ }
 {
-    let reading = readers::read(s, row_of(x), LARGEST_RECORD, index);
+    let reading = readers::read(s, structures::row_of(x), LARGEST_RECORD, index);
     let outcome = reading.outcome;
     let places = reading.places;
     match outcome {

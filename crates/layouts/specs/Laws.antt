@@ -5,3 +5,4 @@ pub mod Fields
 pub mod Scan
 pub mod Marks
 pub mod Places
+pub mod Each

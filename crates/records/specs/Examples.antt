@@ -34,7 +34,7 @@ use Rattle.records.specs.Samples.{recordS, recordD}
 
 -- to name this one on a line is to name all that a reading, a sheet and a handing out compute with
 unfoldable pub evaluate : Unit {0}
-unfolding pick bind need have every enough same digits numberFrom leading spell octets tlv unspell anySize isShortest size opening cut head outermost ask passes placeOf judge sign shortest wellFormed turned value shrink signOf stretch unstretch within starts follows textFrom partsFrom isIdentifier leap monthLength possible isDigit partFrom zulu timeFrom timeCheck timeRule integerRule stringRule octetsRule identifierRule booleanRule also onlyRule each option either encodeLeaf critical encode behind readLeaf begins finish many readOption readFlag readEither read count section criticalByte sheetOption sheetList sheet readCount readSection fillLeaf times criticalIn fillFlag fillOption fillList fill recordAt accept acceptSheet fit fillSheet writeRecord stored eachFields optionFields eitherFields flagFields itemFields fields isField first bytesIn isThere fillAnswer fillAfter writeAnswer writeAfter seek isListed isOwner sameNumber sameNumbers sameTold agree
+unfolding pick bind need have every enough same digits numberFrom leading spell octets tlv unspell anySize isShortest size opening cut head outermost ask passes placeOf judge sign shortest wellFormed turned value shrink signOf stretch unstretch within starts follows textFrom partsFrom isIdentifier leap monthLength possible isDigit partFrom zulu timeFrom timeCheck timeRule integerRule stringRule octetsRule identifierRule booleanRule also onlyRule each option either encodeLeaf critical encode behind readLeaf begins finish many readOption readFlag readEither read count section criticalByte sheetOption sheetList sheet readCount readSection fillLeaf times criticalIn fillFlag fillOption fillList fill recordAt accept acceptSheet fit fillSheet writeRecord stored eachFields optionFields eitherFields flagFields itemFields fields isField first bytesIn isThere fillAnswer fillAfter writeAnswer writeAfter seek isListed sameNumber sameNumbers sameTold agree
 evaluate = tt
 
 abbrev pub at : ℕ → ℕ → Told

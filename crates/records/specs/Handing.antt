@@ -8,7 +8,7 @@ use Rattle.terms.specs.declared.Field.{Field}
 use Rattle.terms.specs.declared.Field.the-variants.{CertificateList, Created, End, Height, ListKind, ListedCertificate, ListedDigest, ListedType, MakerCertificate, OriginalDigest, PictureData, PictureType, PropertyText, SealAlgorithm, SealCustomCritical, SealCustomData, SealCustomId, SealCustomItem, SealCustomValue, SealId, SealInformation, SealName, SealSignedValue, SealType, SignatureAlgorithm, SignatureValue, SignedCustomCritical, SignedCustomData, SignedCustomId, SignedCustomItem, SignedCustomValue, SignedPart, SignerCertificate, SigningTime, Stamp, Start, Vendor, Width}
 use Rattle.terms.specs.Names.{sameName}
 use Rattle.terms.specs.Numbers.{done, absent, largest-record}
-use Rattle.terms.specs.Answer.{Res, good, fault, bind, same, bit, Told, gives, told-one, told-two, told-none, refusal, answered}
+use Rattle.terms.specs.Answer.{Res, good, fault, pick, bind, same, bit, Told, gives, told-one, told-two, told-none, refusal, answered}
 use Rattle.contents.specs.Integer.{value}
 use Rattle.layouts.specs.Layout.{Members, Values}
 use Rattle.layouts.specs.Whole.{accept, fillSheet, writeRecord, stored}
@@ -126,8 +126,14 @@ abbrev pub valueAnswer : Members → Field → List ℕ → Told
 valueAnswer r f w = tell (λ x. gives done (value (x .bytes) ∷ [])) (seek r (isAmong integerNames f 0) w)
 
 -- the custom item that a critical belongs to
-unfoldable pub isOwner : Field → ℕ → Entry → Bool
-isOwner f k x = (sameName SealCustomCritical f && isField SealCustomItem k x) || (sameName SignedCustomCritical f && isField SignedCustomItem k x)
+abbrev pub criticalNames : List Field
+criticalNames = SealCustomCritical ∷ SignedCustomCritical ∷ []
+
+abbrev pub ownerOf : Field → Field
+ownerOf f = pick (sameName f SealCustomCritical) SealCustomItem SignedCustomItem
+
+abbrev pub isOwner : Field → ℕ → Entry → Bool
+isOwner f k x = isOneOf criticalNames f && isField (ownerOf f) k x
 
 -- a critical that is left out is false; past the last item it is absent
 abbrev pub toldCritical : Field → ℕ → List Entry → Entry → Told

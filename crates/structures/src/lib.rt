@@ -1,6 +1,7 @@
 // The structures of the rules by name, and how each is built: a primitive item, a row in a tag, a list, or an item in a tag of its own.
 use items::Tag;
 use primitives::Primitive;
+use records::Record;
 use terms::Field;
 use terms::MAY_BE_EMPTY;
 use terms::MOST_ITEMS;
@@ -8,7 +9,8 @@ use terms::NEVER_EMPTY;
 ghost use mathlib.Core.Path.{_≡_};
 ghost use Rattle.items.specs.Scan.{tagByte};
 ghost use Rattle.layouts.specs.Layout.{tagOf};
-ghost use Rattle.structures.specs.Structure.{layoutOf, itemOf};
+ghost use Rattle.records.specs.Handing.{layoutOf as recordLayout};
+ghost use Rattle.structures.specs.Structure.{rowOf, layoutOf, itemOf};
 
 // A run of members.
 pub enum Row {
@@ -58,6 +60,16 @@ pub enum Build {
         each: Structure,
     },
     Wrap(Tag, Structure),
+}
+
+// The row of a record.
+pub fn row_of(x: Record) -> Row
+    ensures { λ r. ⌜ rowOf r ≡ recordLayout x ⌝ }
+{
+    match x {
+        Record::Seal => Row::Seal,
+        Record::Signature => Row::Signature,
+    }
 }
 
 // How each is built.

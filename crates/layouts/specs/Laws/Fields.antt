@@ -30,7 +30,7 @@ pub stands-cut : (w : List ℕ) (x : Entry) → Stands w x → take (length (x .
 stands-cut w x (p, z, e, h) =
     ap (λ (y : List ℕ). take (length (x .bytes)) (drop (x .place) y)) e ∙ ap (take (length (x .bytes))) (drop-at p (x .bytes ++ z) (x .place) h) ∙ take-at (x .bytes) z (length (x .bytes)) refl
 
-all-append : {A : Type 0} (P : A → Type 0) (xs ys : List A) → All P xs → All P ys → All P (xs ++ ys)
+pub all-append : {A : Type 0} (P : A → Type 0) (xs ys : List A) → All P xs → All P ys → All P (xs ++ ys)
 all-append P [] ys h k = k
 all-append P (x ∷ xs) ys h k = (h .0, all-append P xs ys (h .1) k)
 

@@ -2,19 +2,27 @@
 use mathlib.Core.Path.{_≡_, refl, sym}
 use mathlib.Core.Logic.{_⊎_, inl, inr}
 use Prim.Native.Nat.{ℕ}
-use mathlib.Core.Bool.{Bool}
+use mathlib.Core.Bool.{Bool, true, false, not, _||_}
 use mathlib.Core.Option.{Option, none, some}
 use mathlib.Core.List.{List, [], _∷_}
-use lib.Dec.{T}
+use lib.Dec.{T, T-not}
 use Rattle.terms.specs.declared.Field.{Field}
 use Rattle.terms.specs.declared.Field.the-variants.{ListedCertificate, ListedDigest}
 use Rattle.terms.specs.Numbers.{absent}
 use Rattle.terms.specs.Answer.{good, fault, bind, same, Told, told-none, refusal}
 use Rattle.terms.specs.Laws.Answer.{and-r, same-eq}
-use Rattle.layouts.specs.Layout.{Members, Values, All}
+use Rattle.contents.specs.Content.{fine}
+use Rattle.contents.specs.Integer.{wellFormed}
+use Rattle.contents.specs.Rules.{integerRule}
+use Rattle.contents.specs.Leaves.{Leaf, Holding, bytes, number, ruleOf}
+use Rattle.contents.specs.Laws.Leaves.{by-ask}
+use Rattle.layouts.specs.Layout.{Members, Values, Oks, All}
 use Rattle.layouts.specs.Fields.{Entry, fields, Stands, first}
 use Rattle.layouts.specs.Laws.Fields.{None, First, Sought, first-sought, first-holds}
-use Rattle.records.specs.Handing.{readRecord, fieldsIn, seek, tell, isOneOf, fieldAnswer, isListed, matchAnswer, valueAnswer, criticalAnswer, countAnswer}
+use Rattle.layouts.specs.Laws.Each.{passes, passesAll, fields-pass}
+use Rattle.records.specs.declared.Record.{Record}
+use Rattle.records.specs.declared.Record.the-variants.{Seal, Signature}
+use Rattle.records.specs.Handing.{layoutOf, integerNames, readRecord, fieldsIn, seek, tell, isOneOf, fieldAnswer, isListed, matchAnswer, valueAnswer, criticalAnswer, countAnswer}
 
 -- told of the first that passes, whose bytes stand at its place; absent where none passes
 abbrev pub Tells : List ℕ → List Entry → (Entry → Bool) → (Entry → Told) → Told → Type 0
@@ -40,3 +48,39 @@ pub refused-told : (r : Members) (w : List ℕ) (n p : ℕ) → readRecord r w �
     → (fieldAnswer r f k w ≡ refusal n p) × (matchAnswer r given w ≡ refusal n p) × (valueAnswer r f w ≡ refusal n p) × (criticalAnswer r f k w ≡ refusal n p) × (countAnswer r f w ≡ refusal n p)
 unfolding seek bind
 refused-told r w n p e f k given = (rw e, rw e, rw e, rw e, rw e)
+
+-- ---- integers
+
+-- a value that is an integer
+abbrev isNumber : Holding → Bool
+isNumber (bytes rule) = false
+isNumber (number allowed) = true
+
+-- under the names of integers stand integers
+abbrev asNumber : Field → Leaf → Bool
+asNumber f l = not (isOneOf integerNames f) || isNumber (l .holds)
+
+abbrev noNumber : Field → Bool
+noNumber f = not (isOneOf integerNames f)
+
+integers-named : (x : Record) → T (passesAll asNumber noNumber (layoutOf x))
+unfolding passes
+integers-named Seal = tt
+integers-named Signature = tt
+
+-- each of them in the form of one
+abbrev pub WellFormed : Entry → Type 0
+WellFormed e = T (isOneOf integerNames (e .name)) → T (wellFormed (e .bytes))
+
+number-well : (a : Bool) (h : Holding) (v : List ℕ) → T (not a || isNumber h) → T a → ruleOf h v ≡ fine → T (wellFormed v)
+unfolding integerRule
+number-well true (bytes rule) v t i o = absurd t
+number-well true (number allowed) v t i o = by-ask (wellFormed v) _ _ o λ w q. w
+number-well false h v t i o = absurd i
+
+pub integers-well : (x : Record) (v : Values (layoutOf x)) → Oks (layoutOf x) v → All WellFormed (fields (layoutOf x) v)
+integers-well x v o =
+    fields-pass asNumber noNumber WellFormed
+    (λ f l t u r k b i. number-well (isOneOf integerNames f) (l .holds) u t i r)
+    (λ f t k b y n i. absurd (T-not (isOneOf integerNames f) t i))
+    (layoutOf x) (integers-named x) v o
