@@ -6,3 +6,4 @@ pub mod Scan
 pub mod Marks
 pub mod Places
 pub mod Each
+pub mod Way

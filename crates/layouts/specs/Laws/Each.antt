@@ -76,12 +76,12 @@ module _ (t : Field → Leaf → Bool) (u : Field → Bool) where
           (others f (and-l (u f) _ h) k b _ (length vs), tt)
       item-passes (wrap τ i) f h k v o b = item-passes i f h k v o (b + before (length (encode i v)))
 
-      run-passes : (r : Members) → T (passesAll r) → (k : ℕ) (v : Values r) → Oks r v → (b : ℕ) → All P (runFields r k v b)
+      pub run-passes : (r : Members) → T (passesAll r) → (k : ℕ) (v : Values r) → Oks r v → (b : ℕ) → All P (runFields r k v b)
       run-passes end h k v o b = tt
       run-passes (m ▸ r) h k v o b =
           all-append P (partFields m k (v .0) b) _ (part-passes m (and-l (passesPart m) _ h) k (v .0) (o .0) b) (run-passes r (and-r (passesPart m) _ h) k (v .1) (o .1) (b + length (encodePart m (v .0))))
 
-      part-passes : (m : Member) → T (passesPart m) → (k : ℕ) (v : Part m) → OkPart m v → (b : ℕ) → All P (partFields m k v b)
+      pub part-passes : (m : Member) → T (passesPart m) → (k : ℕ) (v : Part m) → OkPart m v → (b : ℕ) → All P (partFields m k v b)
       part-passes (known w) h k v o b = tt
       part-passes (one f i) h k v o b = item-passes i f h k v o b
       part-passes (maybe f i) h k v o b = option-passes (λ x. Ok i x) (λ x p. itemFields i f k x p) (λ x q p. item-passes i f h k x q p) v o b

@@ -39,7 +39,7 @@ abbrev Placed : {A : Type 0} → List ℕ → (A → List ℕ) → (A → ℕ �
 Placed {A} s e f = (a : A) (p z : List ℕ) → s ≡ p ++ (e a ++ z) → All (Stands s) (f a (length p))
 
 -- inside a tag: the content stands after the head
-inside : (s p z : List ℕ) (t : ℕ) (c : List ℕ) → s ≡ p ++ (tlv t c ++ z) → (s ≡ (p ++ (t ∷ octets forms (length c))) ++ (c ++ z)) × (length (p ++ (t ∷ octets forms (length c))) ≡ length p + before (length c))
+pub inside : (s p z : List ℕ) (t : ℕ) (c : List ℕ) → s ≡ p ++ (tlv t c ++ z) → (s ≡ (p ++ (t ∷ octets forms (length c))) ++ (c ++ z)) × (length (p ++ (t ∷ octets forms (length c))) ≡ length p + before (length c))
 unfolding tlv
 inside s p z t c e = (
   e ∙ ap (λ (y : List ℕ). p ++ (t ∷ y)) (append-assoc (octets forms (length c)) c z) ∙ sym (append-assoc p (t ∷ octets forms (length c)) (c ++ z)),
@@ -47,7 +47,7 @@ inside s p z t c e = (
 )
 
 -- past a part: the next stands after it
-past : (s p x y z : List ℕ) → s ≡ p ++ ((x ++ y) ++ z) → (s ≡ p ++ (x ++ (y ++ z))) × (s ≡ (p ++ x) ++ (y ++ z)) × (length (p ++ x) ≡ length p + length x)
+pub past : (s p x y z : List ℕ) → s ≡ p ++ ((x ++ y) ++ z) → (s ≡ p ++ (x ++ (y ++ z))) × (s ≡ (p ++ x) ++ (y ++ z)) × (length (p ++ x) ≡ length p + length x)
 past s p x y z e =
     let q : s ≡ p ++ (x ++ (y ++ z)) = e ∙ ap (λ (w : List ℕ). p ++ w) (append-assoc x y z) in
     (q, q ∙ sym (append-assoc p x (y ++ z)), length-append p x)
