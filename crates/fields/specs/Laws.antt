@@ -30,7 +30,7 @@ use Rattle.fields.specs.Handed.{partOf, partUnder, spanOf, within}
 -- ---- a start and a length inside so many bytes
 
 module _ (n a l : ℕ) where
-  within-yes : a + l ≤ n → within n (a, l) ≡ (a, l)
+  pub within-yes : a + l ≤ n → within n (a, l) ≡ (a, l)
   unfolding within pick
   within-yes h = rw (le-leb (a + l) n h)
 
@@ -44,7 +44,7 @@ within-nothing n = within-yes n 0 0 (omega arith)
 
 -- ---- what is told of a field
 
-told-part : (e : Res (Option Entry)) → toldPart (partOf e) ≡ tell toldPlace e
+pub told-part : (e : Res (Option Entry)) → toldPart (partOf e) ≡ tell toldPlace e
 told-part (good (some x)) = refl
 told-part (good none) = refl
 told-part (fault n p) = refl
@@ -138,7 +138,7 @@ module _ (f : Field) (d : List ℕ) (b : Bool) (h : b ≡ not (eqb (getD d (slot
       go false e′ = rw (ap (λ (x : List ℕ). getD x 0 0) e, ap (λ (x : List ℕ). getD x 1 0) e)
 
 -- the numbers under a name are those of the field that is asked for
-numbers-part : (f : Field) (d : List ℕ) (o : Option Entry) → under f d ≡ numbersOf o → partUnder f d ≡ partOf (good o)
+pub numbers-part : (f : Field) (d : List ℕ) (o : Option Entry) → under f d ≡ numbersOf o → partUnder f d ≡ partOf (good o)
 unfolding partUnder pick under
 numbers-part f d o h = rw (ap (λ (x : List ℕ). getD x 0 0) h, ap (λ (x : List ℕ). getD x 1 0) h, ap (λ (x : List ℕ). getD x 2 0) h) (go o)
   where
@@ -163,6 +163,13 @@ module _ (r : Members) (w : List ℕ) (m : Members) (g : m ≡ r) (o : Outcome) 
       go : (x : Res (Values r)) → toldOutcome (Length l) ≡ answered (λ v. length w) x → (bind x λ v. good (first q (fields r v))) ≡ good (first q (fieldsOf r x))
       go (good v) e = refl
       go (fault n p) e = never (cc)
+
+  pub was-read : (l : ℕ) → o ≡ Length l → (v : Values r) × (readRecord r w ≡ good v)
+  was-read l i = go (readRecord r w) refl (rw (g, i) at t)
+    where
+      go : (x : Res (Values r)) → readRecord r w ≡ x → toldOutcome (Length l) ≡ answered (λ v. length w) x → (v : Values r) × (readRecord r w ≡ good v)
+      go (good v) h e = (v, h)
+      go (fault n p) h e = never (cc)
 
   pub placed-in : (k : ℕ) (d : List ℕ) → Placed k (fieldsOf m (accept largest-record m w)) d → Placed k (fieldsIn r w) d
   placed-in k d p = rw g at p

@@ -37,7 +37,7 @@ use Rattle.records.specs.declared.Items.{Items}
 use Rattle.records.specs.declared.Items.the-variants.{Count, Absent as NoItems, Refused as ItemsRefused}
 use Rattle.records.specs.Handing.{layoutOf, toldRecord, fieldsOf, fieldsIn, seek, tell, toldPlace, isOneOf, isAmong, integerNames, valueAnswer, toldCritical, criticalAnswer, toldPart, toldNumber, toldIs, toldItems}
 use Rattle.records.specs.Part.{PartOf}
-use Rattle.records.specs.Laws.Handing.{WellFormed, integers-well}
+use Rattle.records.specs.Laws.Handing.{one-of-alike, asked-name, WellFormed, integers-well}
 use Rattle.fields.specs.Handed.{within}
 use Rattle.fields.specs.Laws.{is-there, is-absent, is-refused, sought-in, part-bytes, sought-refused, sought-read, placed-in}
 use Rattle.values.specs.Value.{numberIn, isUnder, criticalUnder, countUnder}
@@ -69,16 +69,6 @@ module _ (w : List ℕ) (n : Read) (h : n ≡ numberAt w 0 (length w)) where
 number-well : (c : List ℕ) → T (wellFormed c) → numberIn c ≡ Value (value c)
 unfolding numberIn
 number-well c t = pick-yes (wellFormed c) _ _ t
-
--- names of one number are of the same names
-one-of-alike : (names : List Field) (f g : Field) → code f ≡ code g → isOneOf names f ≡ isOneOf names g
-one-of-alike [] f g e = refl
-one-of-alike (x ∷ xs) f g e = rw (e, one-of-alike xs f g e)
-
--- a field that is asked for has a name of the same number
-asked-name : (f : Field) (k : ℕ) (x : Entry) → T (isField f k x) → code f ≡ code (x .name)
-unfolding isField
-asked-name f k x t = eqb→eq (code f) (code (x .name)) (and-l (sameName f (x .name)) _ t)
 
 -- one of the names is asked for by its name
 pub among : (names : List Field) (f : Field) (k : ℕ) → T (isOneOf names f) → isAmong names f k ≡ isField f k

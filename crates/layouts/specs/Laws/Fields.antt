@@ -53,7 +53,7 @@ past s p x y z e =
     (q, q ∙ sym (append-assoc p x (y ++ z)), length-append p x)
 
 -- a primitive item's value
-leaf-stands : (s p z : List ℕ) (f : Field) (k : ℕ) (l : Leaf) (v : List ℕ) → s ≡ p ++ (encodeLeaf l v ++ z) → Stands s (entry f k (startOf l v (length p)) v)
+pub leaf-stands : (s p z : List ℕ) (f : Field) (k : ℕ) (l : Leaf) (v : List ℕ) → s ≡ p ++ (encodeLeaf l v ++ z) → Stands s (entry f k (startOf l v (length p)) v)
 unfolding encodeLeaf
 leaf-stands s p z f k l v e =
     let d = l .front in

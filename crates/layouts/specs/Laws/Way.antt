@@ -63,7 +63,13 @@ module _ (named : Field → Bool) where
   lacksPart-none : (q : Entry → Bool) → Asks q → (m : Member) → T (lacksPart m) → (v : Part m) → OkPart m v → (b : ℕ) → All (λ x. T (not (q x))) (partFields m 0 v b)
   lacksPart-none q a m t v o b = passed-by q a (partFields m 0 v b) (part-passes (λ f l. other f) other (λ x. T (other (x .name))) (λ f l t v o k b. t) (λ f t k b x n. t) m t 0 v o b)
 
-  -- a member stands in `s`, and the fields of these names are its
+  -- a way to a member: it is the first, it stands after another, or in a tag
+  pub data Way (m : Member) : Members → Type 0 where
+    here : {r : Members} → T (lacks r) → Way m (m ▸ r)
+    beyond : {m′ : Member} {r : Members} → T (lacksPart m′) → Way m r → Way m (m′ ▸ r)
+    in-tag : {f : Field} {t : ℕ} {r′ r : Members} → T (other f) → T (lacks r) → Way m r′ → Way m (one f (node t r′) ▸ r)
+
+  -- the member stands in `s`, and the fields of these names are its
   pub record Holds (m : Member) (s : List ℕ) (xs : List Entry) : Type 0 where
     pub value : Part m
     pub ok : OkPart m value
@@ -72,15 +78,11 @@ module _ (named : Field → Bool) where
     pub written : s ≡ earlier ++ (encodePart m value ++ later)
     pub alike : (q : Entry → Bool) → Asks q → first q xs ≡ first q (partFields m 0 value (length earlier))
 
-  -- the way to it in a run that stands in `s`
-  abbrev pub Way : Member → Members → Type 0
-  Way m r = (s : List ℕ) (v : Values r) → Oks r v → (p z : List ℕ) → s ≡ p ++ (encodes r v ++ z) → Holds m s (runFields r 0 v (length p))
-
-  module _ (m : Member) where
-    -- it is the first member
-    pub here : (r : Members) → T (lacks r) → Way m (m ▸ r)
-    unfolding encodes runFields
-    here r t s v o p z e =
+  -- where a way leads in a run that stands in `s`
+  module _ (m : Member) (s : List ℕ) where
+    led : {r : Members} → Way m r → (v : Values r) → Oks r v → (p z : List ℕ) → s ≡ p ++ (encodes r v ++ z) → Holds m s (runFields r 0 v (length p))
+    unfolding encodes runFields first
+    led (here {r} t) v o p z e =
         let n = past s p (encodePart m (v .0)) (encodes r (v .1)) z e in
         record {
           value = v .0;
@@ -90,13 +92,9 @@ module _ (named : Field → Bool) where
           written = n .0;
           alike = λ q a. first-stop q (partFields m 0 (v .0) (length p)) _ (lacks-none q a r t (v .1) (o .1) _);
         }
-
-    -- it stands after a member
-    pub beyond : (m′ : Member) → T (lacksPart m′) → (r : Members) → Way m r → Way m (m′ ▸ r)
-    unfolding encodes runFields
-    beyond m′ t r w s v o p z e =
+    led (beyond {m′} {r} t w) v o p z e =
         let n = past s p (encodePart m′ (v .0)) (encodes r (v .1)) z e in
-        let h = w s (v .1) (o .1) (p ++ encodePart m′ (v .0)) z (n .1) in
+        let h = led w (v .1) (o .1) (p ++ encodePart m′ (v .0)) z (n .1) in
         record {
           value = h .value;
           ok = h .ok;
@@ -105,15 +103,11 @@ module _ (named : Field → Bool) where
           written = h .written;
           alike = λ q a. first-skip q (partFields m′ 0 (v .0) (length p)) _ (lacksPart-none q a m′ t (v .0) (o .0) _) ∙ ap (λ (b : ℕ). first q (runFields r 0 (v .1) b)) (sym (n .2)) ∙ h .alike q a;
         }
-
-    -- it stands in a tag
-    pub in-tag : (f : Field) → T (other f) → (t : ℕ) (r′ : Members) → Way m r′ → (r : Members) → T (lacks r) → Way m (one f (node t r′) ▸ r)
-    unfolding encodes runFields first
-    in-tag f u t r′ w r k s v o p z e =
+    led (in-tag {f} {t} {r′} {r} u k w) v o p z e =
         let c : List ℕ = encodes r′ (v .0) in
         let n = past s p (tlv t c) (encodes r (v .1)) z e in
         let i = inside s p (encodes r (v .1) ++ z) t c (n .0) in
-        let h = w s (v .0) (o .0) (p ++ (t ∷ octets forms (length c))) (encodes r (v .1) ++ z) (i .0) in
+        let h = led w (v .0) (o .0) (p ++ (t ∷ octets forms (length c))) (encodes r (v .1) ++ z) (i .0) in
         record {
           value = h .value;
           ok = h .ok;
@@ -124,11 +118,11 @@ module _ (named : Field → Bool) where
               ∙ pick-no (q _) _ _ (passed-by q a (_ ∷ []) (u, tt) .0) ∙ ap (λ (b : ℕ). first q (runFields r′ 0 (v .0) b)) (sym (i .1)) ∙ h .alike q a;
         }
 
-    -- the way in a whole record
-    pub in-record : (r : Members) → Way m r → (v : Values r) → Oks r v → Holds m (recordOf r v) (fields r v)
-    unfolding fields
-    in-record r w v o =
-        let c : List ℕ = encodes r v in
-        let n = inside (recordOf r v) [] [] sequence c (sym (append-nil (recordOf r v))) in
-        let l : length (sequence ∷ octets forms (length c)) ≡ before (length c) = omega arith in
-        rw l at (w (recordOf r v) v o (sequence ∷ octets forms (length c)) [] (n .0))
+  -- and in a whole record
+  pub held-in : (m : Member) (r : Members) → Way m r → (v : Values r) → Oks r v → Holds m (recordOf r v) (fields r v)
+  unfolding fields
+  held-in m r w v o =
+      let c : List ℕ = encodes r v in
+      let n = inside (recordOf r v) [] [] sequence c (sym (append-nil (recordOf r v))) in
+      let l : length (sequence ∷ octets forms (length c)) ≡ before (length c) = omega arith in
+      rw l at (led m (recordOf r v) w v o (sequence ∷ octets forms (length c)) [] (n .0))

@@ -5,19 +5,20 @@ use Prim.Native.Nat.{ℕ}
 use mathlib.Core.Bool.{Bool, true, false, not, _||_}
 use mathlib.Core.Option.{Option, none, some}
 use mathlib.Core.List.{List, [], _∷_}
-use lib.Dec.{T, T-not}
+use lib.Dec.{T, T-not, eqb→eq}
 use Rattle.terms.specs.declared.Field.{Field}
 use Rattle.terms.specs.declared.Field.the-variants.{ListedCertificate, ListedDigest}
+use Rattle.terms.specs.Names.{code, sameName}
 use Rattle.terms.specs.Numbers.{absent}
 use Rattle.terms.specs.Answer.{good, fault, bind, same, Told, told-none, refusal}
-use Rattle.terms.specs.Laws.Answer.{and-r, same-eq}
+use Rattle.terms.specs.Laws.Answer.{and-l, and-r, same-eq}
 use Rattle.contents.specs.Content.{fine}
 use Rattle.contents.specs.Integer.{wellFormed}
 use Rattle.contents.specs.Rules.{integerRule}
 use Rattle.contents.specs.Leaves.{Leaf, Holding, bytes, number, ruleOf}
 use Rattle.contents.specs.Laws.Leaves.{by-ask}
 use Rattle.layouts.specs.Layout.{Members, Values, Oks, All}
-use Rattle.layouts.specs.Fields.{Entry, fields, Stands, first}
+use Rattle.layouts.specs.Fields.{Entry, fields, Stands, isField, first}
 use Rattle.layouts.specs.Laws.Fields.{None, First, Sought, first-sought, first-holds}
 use Rattle.layouts.specs.Laws.Each.{passes, passesAll, fields-pass}
 use Rattle.records.specs.declared.Record.{Record}
@@ -48,6 +49,18 @@ pub refused-told : (r : Members) (w : List ℕ) (n p : ℕ) → readRecord r w �
     → (fieldAnswer r f k w ≡ refusal n p) × (matchAnswer r given w ≡ refusal n p) × (valueAnswer r f w ≡ refusal n p) × (criticalAnswer r f k w ≡ refusal n p) × (countAnswer r f w ≡ refusal n p)
 unfolding seek bind
 refused-told r w n p e f k given = (rw e, rw e, rw e, rw e, rw e)
+
+-- ---- names
+
+-- names of one number are of the same names
+pub one-of-alike : (names : List Field) (f g : Field) → code f ≡ code g → isOneOf names f ≡ isOneOf names g
+one-of-alike [] f g e = refl
+one-of-alike (x ∷ xs) f g e = rw (e, one-of-alike xs f g e)
+
+-- a field that is asked for has a name of the same number
+pub asked-name : (f : Field) (k : ℕ) (x : Entry) → T (isField f k x) → code f ≡ code (x .name)
+unfolding isField
+asked-name f k x t = eqb→eq (code f) (code (x .name)) (and-l (sameName f (x .name)) _ t)
 
 -- ---- integers
 
