@@ -5,7 +5,6 @@ use mathlib.Core.Bool.{true}
 use mathlib.Core.List.{List, [], _∷_, _++_}
 use lib.ListN.{length, replicate, set, take, drop}
 use Rattle.terms.specs.declared.Field.the-variants.{Header, ListKind, CertificateList, ListedDigest, SealCustomData, SealCustomItem, SealCustomCritical, Stamp}
-use Rattle.terms.specs.Names.{code}
 use Rattle.terms.specs.Numbers.{done, other-tag, bad-boolean, left-over, bad-bits, no-bytes, too-many-items, too-large, bad-sheet, no-room}
 use Rattle.terms.specs.Answer.{good, pick, bind, need, have, every, enough, same, finish, Told, told-one, refusal, answered, never-empty}
 use Rattle.terms.specs.Digits.{digits, numberFrom, number, leading}

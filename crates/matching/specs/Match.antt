@@ -2,7 +2,7 @@
 -- Nobody has to believe this page: `Laws` proves that it is the entry that `Handing.matchIn` seeks.
 use Prim.Native.Nat.{ℕ, suc, zero, _-_}
 use mathlib.Core.Bool.{Bool, true, false}
-use mathlib.Core.List.{List, [], _∷_}
+use mathlib.Core.List.{List}
 use lib.ListN.{length, take, drop}
 use lib.Seq.{slice}
 use lib.Dec.{ltb}

@@ -11,7 +11,6 @@ use lib.ListN.{replicate, set, take, drop}
 use lib.IntN.{ℤ, pos, negsuc}
 use Rattle.terms.specs.declared.Field.{Field}
 use Rattle.terms.specs.declared.Field.the-variants.{SealInformation, Seal, Vendor, SealId, SealType, SealName, ListKind, CertificateList, ListedCertificate, ListedType, ListedDigest, Created, Start, End, PictureType, PictureData, Width, Height, SealCustomData, SealCustomId, SealCustomCritical, SealCustomValue, MakerCertificate, SealAlgorithm, SealSignedValue, SignedPart, SigningTime, OriginalDigest, PropertyText, SignedCustomData, SignedCustomId, SignedCustomCritical, SignedCustomValue, SignerCertificate, SignatureAlgorithm, SignatureValue, Stamp}
-use Rattle.terms.specs.Names.{code, sameName}
 use Rattle.terms.specs.Numbers.{done, absent, other-tag, bad-boolean, left-over, bad-length, item-missing}
 use Rattle.terms.specs.Answer.{Res, good, fault, pick, bind, need, have, every, enough, same, finish, Told, gives, told-one, told-two, told-none, refusal}
 use Rattle.terms.specs.Laws.Table.{Row, asks, answers, sameNumber, sameNumbers, sameTold, agree, agreed}
@@ -29,7 +28,7 @@ use Rattle.layouts.specs.Whole.{recordAt, accept, acceptSheet, fit, fillSheet, 
 use Rattle.layouts.specs.Fields.{Entry, eachFields, optionFields, eitherFields, flagFields, itemFields, fields, isField, first, bytesIn, isThere}
 use Rattle.layouts.specs.Places.{numbersOf}
 use Rattle.records.specs.Record.{seal, signature}
-use Rattle.records.specs.Handing.{readRecord, fieldsIn, recordAnswer, fillAnswer, fillAfter, writeAnswer, writeAfter, seek, isOneOf, isAmong, fieldAnswer, isListed, matchAnswer, valueAnswer, isOwner, criticalAnswer, countAnswer, signedBytes}
+use Rattle.records.specs.Handing.{readRecord, fieldsIn, recordAnswer, fillAnswer, fillAfter, writeAnswer, writeAfter, seek, fieldAnswer, isListed, matchAnswer, valueAnswer, criticalAnswer, countAnswer, signedBytes}
 use Rattle.records.specs.Samples.{recordS, recordD}
 
 -- to name this one on a line is to name all that a reading, a sheet and a handing out compute with

@@ -1,27 +1,26 @@
 -- Integers, critical and counts, as values. Assumes nothing.
 use mathlib.Core.Path.{_≡_, refl, sym, ap, _∙_}
-use Prim.Native.Nat.{ℕ, _+_, zero}
-use mathlib.Core.Bool.{Bool, true, false, not, _&&_, _||_}
+use Prim.Native.Nat.{ℕ}
+use mathlib.Core.Bool.{Bool, true, false, not, _&&_}
 use mathlib.Core.Option.{Option, none, some}
 use mathlib.Core.List.{List, [], _∷_}
 use lib.ListN.{length, getD, drop}
 use lib.Seq.{take-length}
-use lib.Dec.{T, eqb, eqb→eq}
+use lib.Dec.{T, eqb}
 use lib.IntN.{ℤ}
 use denote.Ref.{RefT}
 use Rattle.terms.specs.declared.Field.{Field}
 use Rattle.terms.specs.declared.Field.the-variants.{SealCustomItem, SealCustomCritical, SignedCustomItem, SignedCustomCritical}
-use Rattle.terms.specs.Names.{code, sameName}
 use Rattle.terms.specs.Numbers.{done, largest-record}
-use Rattle.terms.specs.Answer.{Res, good, fault, pick, Told, gives, told-one, bit}
-use Rattle.terms.specs.Laws.Answer.{never, and-l, is-true, pick-yes}
+use Rattle.terms.specs.Answer.{Res, good, pick, Told, gives, told-one}
+use Rattle.terms.specs.Laws.Answer.{never, is-true, pick-yes}
 use Rattle.contents.specs.Integer.{wellFormed, value}
 use Rattle.integers.specs.Number.{numberOf, numberAt}
 use Rattle.integers.specs.declared.Number.{Number as Read}
 use Rattle.integers.specs.declared.Number.the-variants.{Value as Good, Bad}
 use Rattle.layouts.specs.Layout.{Members}
 use Rattle.layouts.specs.Fields.{Entry, isField, first, isThere}
-use Rattle.layouts.specs.Laws.Fields.{First, first-holds}
+use Rattle.layouts.specs.Laws.Fields.{first-holds}
 use Rattle.layouts.specs.Places.{slot, under, numbersOf, Placed}
 use Rattle.layouts.specs.Whole.{accept, toldOutcome}
 use Rattle.layouts.specs.declared.Outcome.{Outcome}

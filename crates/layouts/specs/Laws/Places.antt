@@ -11,7 +11,7 @@ use lib.Seq.{sets, sets-eq, length-sets, length-take-le, getD-set-same, getD-set
 use lib.Dec.{T, eqb, ltb, T-not, eqb→eq, ltb→lt, nltb→le, lt→ltb}
 use borrow.Author.Tests.{eq-eqb}
 use Rattle.terms.specs.declared.Field.{Field}
-use Rattle.terms.specs.Names.{code, nameOf, sameName}
+use Rattle.terms.specs.Names.{code, nameOf}
 use Rattle.terms.specs.Laws.Names.{code-below, code-name}
 use Rattle.terms.specs.Laws.Answer.{test, and-l, and-r, both, pick-yes, pick-no}
 use Rattle.layouts.specs.Fields.{Entry, isField, first}

@@ -9,10 +9,9 @@ use lib.ListN.{length}
 use lib.Dec.{T, T-not}
 use Rattle.terms.specs.declared.Field.{Field}
 use Rattle.terms.specs.Answer.{pick}
-use Rattle.terms.specs.Laws.Answer.{test, pick-yes, pick-no}
+use Rattle.terms.specs.Laws.Answer.{test, pick-no}
 use Rattle.heads.specs.Head.{forms, tlv, octets, before}
-use Rattle.contents.specs.Leaves.{Leaf}
-use Rattle.layouts.specs.Layout.{Item, node, Members, end, _▸_, Member, one, Values, Part, All, Oks, OkPart, encodes, encodePart}
+use Rattle.layouts.specs.Layout.{node, Members, _▸_, Member, one, Values, Part, All, Oks, OkPart, encodes, encodePart}
 use Rattle.layouts.specs.Fields.{Entry, runFields, partFields, fields, first}
 use Rattle.layouts.specs.Whole.{sequence, recordOf}
 use Rattle.layouts.specs.Laws.Fields.{inside, past}

@@ -4,23 +4,22 @@ use mathlib.Core.Logic.{_⊎_, inl, inr}
 use Prim.Native.Nat.{ℕ, suc, zero, _+_, _-_, _≤_, _<_}
 use native.Mathlib.Omega.{arith}
 use mathlib.Core.Bool.{Bool, true, false, not, _||_}
-use mathlib.Core.Option.{Option, none, some}
-use mathlib.Core.List.{List, [], _∷_, _++_, append-nil}
-use lib.ListN.{length, take, drop, length-append}
+use mathlib.Core.Option.{Option, some}
+use mathlib.Core.List.{List, [], _∷_, _++_}
+use lib.ListN.{length, drop, length-append}
 use lib.Seq.{slice, length-slice, take-length, drop-at}
-use lib.Dec.{T, ltb}
+use lib.Dec.{T}
 use borrow.Author.Tests.{lt-ltb, le-ltb}
 use Rattle.terms.specs.declared.Field.{Field}
 use Rattle.terms.specs.declared.Field.the-variants.{ListKind, CertificateList, ListedCertificate, ListedEntry, ListedDigest}
 use Rattle.terms.specs.Names.{sameName}
 use Rattle.terms.specs.Numbers.{most-items, largest-record}
-use Rattle.terms.specs.Answer.{Res, good, fault, pick, same, never-empty}
+use Rattle.terms.specs.Answer.{good, pick, same, never-empty}
 use Rattle.terms.specs.Laws.Answer.{and-l, is-true, is-false}
 use Rattle.heads.specs.Head.{forms, tlv, before, cutOff, head}
 use Rattle.heads.specs.Laws.Head.{unspelled, head-tlv, length-tlv}
 use Rattle.heads.specs.Scan.{seen, headAt}
-use Rattle.heads.specs.declared.Seen.{Seen}
-use Rattle.heads.specs.declared.Seen.the-variants.{Item as At, Refused as Bad}
+use Rattle.heads.specs.declared.Seen.the-variants.{Item as At}
 use Rattle.contents.specs.Integer.{isKind, saysKind1}
 use Rattle.contents.specs.Leaves.{Leaf, integer, octetString}
 use Rattle.layouts.specs.Layout.{Item, leaf, node, list, Members, Value, Values, All, InEither, Ok, each, either, encodeLeaf, encode, encodePart}
@@ -35,14 +34,14 @@ use Rattle.layouts.specs.declared.Outcome.{Outcome}
 use Rattle.layouts.specs.declared.Outcome.the-variants.{Length, Refused as Unread}
 use Rattle.records.specs.Record.{digest, certificates, digests}
 use Rattle.records.specs.declared.Record.{Record}
-use Rattle.records.specs.Handing.{layoutOf, toldRecord, readRecord, fieldsOf, fieldsIn, isOneOf, isListed, matchAnswer, toldPart}
+use Rattle.records.specs.Handing.{layoutOf, toldRecord, fieldsOf, isOneOf, isListed, matchAnswer, toldPart}
 use Rattle.records.specs.Laws.Handing.{fields-in, one-of-alike, asked-name}
 use Rattle.records.specs.Laws.List.{listMember, ofList, list-in}
 use Rattle.records.specs.declared.Part.{Part}
 use Rattle.records.specs.declared.Part.the-variants.{There, Absent, Refused}
 use Rattle.fields.specs.Handed.{partOf, partUnder}
 use Rattle.fields.specs.Laws.{within-yes, numbers-part, told-part, sought-refused, sought-read, was-read, placed-in}
-use Rattle.matching.specs.Match.{entryAt, ofSeen, listedAt, bytesAt, ofPart, matchUnder}
+use Rattle.matching.specs.Match.{entryAt, ofSeen, listedAt, bytesAt, matchUnder}
 
 -- a written item at the front of a window: where its content lies, and what is left
 module _ (s : List ℕ) (t p e : ℕ) (c rest : List ℕ) where

@@ -1,12 +1,11 @@
 -- The steps of looking through a list. Assumes nothing.
-use mathlib.Core.Path.{_≡_, refl, sym, ap, _∙_}
-use Prim.Native.Nat.{ℕ, suc, zero, _+_, _-_, _≤_, _<_}
+use mathlib.Core.Path.{_≡_, sym, ap, _∙_}
+use Prim.Native.Nat.{ℕ, suc, _+_, _-_, _≤_, _<_}
 use native.Mathlib.Omega.{arith}
 use mathlib.Core.Bool.{Bool, true, false}
 use mathlib.Core.List.{List, [], _∷_}
 use lib.ListN.{length}
 use lib.Seq.{slice}
-use lib.Dec.{ltb}
 use borrow.Author.Tests.{lt-ltb, le-ltb}
 use denote.Ref.{RefT}
 use Rattle.terms.specs.declared.Field.the-variants.{ListKind, CertificateList}
@@ -24,7 +23,7 @@ use Rattle.records.specs.declared.Part.{Part}
 use Rattle.records.specs.declared.Part.the-variants.{There, Absent, Refused}
 use Rattle.records.specs.Part.{PartOf}
 use Rattle.fields.specs.Handed.{partUnder, spanOf, within}
-use Rattle.matching.specs.Match.{entryAt, ofSeen, listedAt, bytesAt, ofPart, matchUnder}
+use Rattle.matching.specs.Match.{entryAt, listedAt, bytesAt, matchUnder}
 
 -- ---- an entry
 

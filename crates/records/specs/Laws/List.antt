@@ -1,6 +1,6 @@
 -- The certificate list of a seal and of a signature record: where it stands, and its fields. Assumes nothing.
 use mathlib.Core.Bool.{Bool}
-use mathlib.Core.List.{List, [], _∷_}
+use mathlib.Core.List.{[], _∷_}
 use Rattle.terms.specs.declared.Field.{Field}
 use Rattle.terms.specs.declared.Field.the-variants.{CertificateList, ListKind, ListedCertificate, ListedDigest}
 use Rattle.contents.specs.Integer.{isKind, saysKind1}

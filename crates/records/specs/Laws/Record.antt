@@ -8,7 +8,6 @@ use lib.ListN.{length, length-append}
 use lib.Dec.{T, leb}
 use Rattle.terms.specs.declared.Field.{Field}
 use Rattle.terms.specs.declared.Field.the-variants.{SignedPart, SealInformation}
-use Rattle.terms.specs.Names.{code, sameName}
 use Rattle.terms.specs.Numbers.{largest-record}
 use Rattle.terms.specs.Answer.{Res, good, pick, enough, same}
 use Rattle.terms.specs.Laws.Answer.{good-inj, and-l, and-r}
