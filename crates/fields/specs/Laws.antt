@@ -197,13 +197,6 @@ module _ (s z : RefT (List ℕ)) where
     pub cut-long : (a l : ℕ) → a ≤ length (s .now) → length (s .now) - a < l → PartOf s z (within (length (s .now)) (a, l))
     cut-long a l g g′ = rw (within-no (length (s .now)) a l (omega arith)) (nothing h k)
 
-    -- nor where an answer names no part
-    pub cut-absent : (p : Part) → p ≡ Absent → PartOf s z (within (length (s .now)) (spanOf p))
-    cut-absent p e = rw (e, within-nothing (length (s .now))) (nothing h k)
-
-    pub cut-refused : (p : Part) (m q : ℕ) → p ≡ Refused m q → PartOf s z (within (length (s .now)) (spanOf p))
-    cut-refused p m q e = rw (e, within-nothing (length (s .now))) (nothing h k)
-
   module _ (a l : ℕ) where
     -- what lies inside is cut
     pub cut-inside : a ≤ length (s .now) → l ≤ length (s .now) - a → z .ptr ≡ (s .ptr .0, a + s .ptr .1) → z .now ≡ take (a + l - a) (drop a (s .now)) → PartOf s z (within (length (s .now)) (a, l))
@@ -213,6 +206,14 @@ module _ (s z : RefT (List ℕ)) where
 
     pub cut-there : (p : Part) → p ≡ There a l → PartOf s z (within (length (s .now)) (a, l)) → PartOf s z (within (length (s .now)) (spanOf p))
     cut-there p e h = rw e h
+
+  -- an answer that names no part names no bytes, at the start
+  module _ (h : PartOf s z (within (length (s .now)) (0, 0))) where
+    pub cut-absent : (p : Part) → p ≡ Absent → PartOf s z (within (length (s .now)) (spanOf p))
+    cut-absent p e = rw e h
+
+    pub cut-refused : (p : Part) (m q : ℕ) → p ≡ Refused m q → PartOf s z (within (length (s .now)) (spanOf p))
+    cut-refused p m q e = rw e h
 
   pub cut-named : (y p : Part) → y ≡ p → PartOf s z (within (length (s .now)) (spanOf y)) → PartOf s z (within (length (s .now)) (spanOf p))
   cut-named y p e h = rw e at h

@@ -44,8 +44,8 @@ pub fn cut(s: &[u8], p: Part) -> &[u8]
 {
     match p {
         Part::There { start, length } => span(s, start, length),
-        Part::Absent => &s[..0],
-        Part::Refused(_, _) => &s[..0],
+        Part::Absent => span(s, 0, 0),
+        Part::Refused(_, _) => span(s, 0, 0),
     }
 }
 

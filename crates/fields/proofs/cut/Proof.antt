@@ -13,14 +13,14 @@ span-requires c κs = search needs
 enum-told : tie.Need-enum-told
 enum-told c = search needs
 
-slice-aggregate-result : tie.Need-slice-aggregate-result
-slice-aggregate-result c = search needs
+span-requires-2 : tie.Need-span-requires-2
+span-requires-2 c κs = search needs
 
 enum-told-2 : tie.Need-enum-told-2
 enum-told-2 c = search needs
 
-slice-aggregate-result-2 : tie.Need-slice-aggregate-result-2
-slice-aggregate-result-2 c = search needs
+span-requires-3 : tie.Need-span-requires-3
+span-requires-3 c κs = search needs
 
 returns : tie.Need-returns
 returns c = search (needs, cut-there)
@@ -38,9 +38,9 @@ cut-spec =
     enum-known-p
     span-requires
     enum-told
-    slice-aggregate-result
+    span-requires-2
     enum-told-2
-    slice-aggregate-result-2
+    span-requires-3
     returns
     returns-2
     returns-3)
