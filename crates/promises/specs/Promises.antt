@@ -3,6 +3,7 @@
 -- A record is a seal or a signature record: `seal` and `signature` are the layouts of document 01, `v` is a record's field values.
 use mathlib.Core.Path.{_≡_, refl, sym, ap, _∙_, subst}
 use mathlib.Core.Bool.{Bool, false, not, _&&_}
+use mathlib.Core.Logic.{_⊎_}
 use mathlib.Core.Option.{none, some}
 use mathlib.Core.List.{List, [], _∷_, _++_}
 use Prim.Native.Nat.{ℕ, _+_, _≤_, _<_}
@@ -11,6 +12,7 @@ use lib.ListN.{length, getD, take, drop}
 use lib.IntN.{ℤ}
 use lib.Dec.{T, leb, le→leb}
 use borrow.Author.Tests.{lt-leb}
+use denote.Ref.{RefT}
 use Rattle.terms.specs.declared.Field.{Field}
 use Rattle.terms.specs.declared.Field.the-variants.{SignedPart, SealInformation}
 use Rattle.terms.specs.Numbers.{largest-record, too-large, no-room, unreal-time, done, run-end}
@@ -27,9 +29,10 @@ use Rattle.layouts.specs.Places.{under, numbersOf, Placed}
 use Rattle.layouts.specs.Laws.Reading.{clear, clears, spare}
 use Rattle.layouts.specs.Laws.Whole.{Wrote, Kept}
 use Rattle.layouts.specs.Laws.Whole as Whole
-use Rattle.layouts.specs.Laws.Fields.{fields-stand, stands-cut, first-sought, first-holds}
+use Rattle.layouts.specs.Laws.Fields.{None, First, fields-stand, stands-cut, first-sought, first-holds}
 use Rattle.records.specs.Record.{sealInformation, seal, signedPart, signature}
-use Rattle.records.specs.Handing.{readRecord, recordAnswer, fieldsIn, fillAnswer, fillAfter, writeAnswer, writeAfter, isAmong, toldPlace, partNames, fieldAnswer, isListed, matchAnswer, integerNames, valueAnswer, isOwner, toldCritical, criticalAnswer, listNames, countAnswer, signedBytes, informationOf, signedPartOf, sealOf}
+use Rattle.records.specs.Part.{PartOf}
+use Rattle.records.specs.Handing.{readRecord, recordAnswer, fieldsIn, seek, handedOut, fillAnswer, fillAfter, writeAnswer, writeAfter, isAmong, toldPlace, partNames, fieldAnswer, isListed, matchAnswer, integerNames, valueAnswer, isOwner, toldCritical, criticalAnswer, listNames, countAnswer, signedBytes, informationOf, signedPartOf, sealOf}
 use Rattle.records.specs.Laws.Record as Record
 use Rattle.records.specs.Laws.Handing.{Tells}
 use Rattle.records.specs.Laws.Handing as Handing
@@ -122,6 +125,24 @@ module _ (r : Members) (k : Clear r) where
   pub refused-is-told : (w : List ℕ) (n p : ℕ) → readRecord r w ≡ fault n p → (f : Field) (i : ℕ) (given : List ℕ)
       → (fieldAnswer r f i w ≡ refusal n p) × (matchAnswer r given w ≡ refusal n p) × (valueAnswer r f w ≡ refusal n p) × (criticalAnswer r f i w ≡ refusal n p) × (countAnswer r f w ≡ refusal n p)
   refused-is-told w n p e f i given = Handing.refused-told r w n p e f i given
+
+  -- a part that is handed out is the field's own bytes, and lies where they lie in the caller's record; of a refused record, or where no such field
+  -- is there, it has no bytes and lies at the record's start. `z` is a part of `s` by a contract: of an accessor, or of the matching entry
+  module _ (s z : RefT (List ℕ)) where
+    abbrev HandedOut : (Entry → Bool) → Type 0
+    HandedOut p = PartOf s z (handedOut (seek r p (s .now)))
+
+    abbrev Own : Entry → Type 0
+    Own x = (z .now ≡ x .bytes) × (z .ptr ≡ (s .ptr .0, s .ptr .1 + x .place))
+
+    abbrev Nothing : Type 0
+    Nothing = (z .now ≡ []) × (z .ptr ≡ s .ptr)
+
+    pub part-is-its-own-bytes : (v : Values r) → readRecord r (s .now) ≡ good v → (p : Entry → Bool) → HandedOut p → ((x : Entry) × First p (fields r v) x × Own x) ⊎ (None p (fields r v) × Nothing)
+    part-is-its-own-bytes v e p h = Handing.handed-first r s z p h v e (fields-stand-there (s .now) v e)
+
+    pub refused-hands-out-nothing : (n q : ℕ) → readRecord r (s .now) ≡ fault n q → (p : Entry → Bool) → HandedOut p → Nothing
+    refused-hands-out-nothing n q e p h = Handing.handed-refused r s z p h n q e
 
   -- what a reader's table of places tells stands there too: its second and third number are the field's start and length
   pub placed-stands-there : (w : List ℕ) (v : Values r) → readRecord r w ≡ good v → (i : ℕ) (d : List ℕ) → Placed i (fieldsIn r w) d → (f : Field) (x : Entry) → first (isField f i) (fields r v) ≡ some x
