@@ -207,23 +207,23 @@ pub fn from_eight(b: [u8; 8]) -> i64
     value_in(&b)
 }
 
-// How many of eight bytes are needed: those from the first that is needed on.
-fn needed(b: [u8; 8]) -> usize
-    ensures { λ r. ⌜ r ≡ length (shrink b) ⌝ }
+// How many bytes are needed: those from the first that is needed on.
+pub fn needed(c: &[u8]) -> usize
+    ensures { λ r. ⌜ (r ≡ length (shrink (now (c .entry)))) × (r ≤ length (now (c .entry))) ⌝ }
 {
     let mut i = 0;
-    while i < 7 {
-        if is_needed(b[i], b[i + 1]) {
-            return 8 - i;
+    while i + 1 < c.len() {
+        if is_needed(c[i], c[i + 1]) {
+            return c.len() - i;
         }
         i += 1;
     }
-    1
+    c.len() - i
 }
 
 // How many bytes the content of a number has, the last ones of its eight.
 pub fn size(v: i64) -> usize
     ensures { λ r. ⌜ r ≡ length (contentOf v) ⌝ }
 {
-    needed(eight(v))
+    needed(&eight(v))
 }

@@ -3,6 +3,7 @@ pub mod Sheet
 pub mod Whole
 pub mod Fields
 pub mod Scan
+pub mod SheetScan
 pub mod Marks
 pub mod Places
 pub mod Each

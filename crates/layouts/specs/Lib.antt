@@ -4,6 +4,7 @@ pub mod Sheet
 pub mod Whole
 pub mod Fields
 pub mod Scan
+pub mod SheetScan
 pub mod Places
 pub mod Marks
 pub mod Laws

@@ -8,15 +8,16 @@ use lib.ListN.{length, take, length-append, length-drop}
 use lib.Seq.{slice}
 use mir.Syntax.{w64}
 use mir.Val.{Fits}
-use Rattle.terms.specs.Answer.{Res, good, fault, same}
+use Rattle.terms.specs.Answer.{Res, good, fault, never-empty, same}
 use Rattle.terms.specs.Laws.Answer.{never}
 use Rattle.heads.specs.Head.{forms, Cut, head, tlv, before}
 use Rattle.heads.specs.Laws.Head.{head-back, length-tlv}
 use Rattle.heads.specs.Scan.{seen, headAt}
 use Rattle.heads.specs.declared.Seen.{Seen}
 use Rattle.heads.specs.declared.Seen.the-variants.{Item, Refused as Bad}
-use Rattle.contents.specs.Leaves.{Leaf, ruleOf, Known, only}
-use Rattle.contents.specs.Scan.{contentAt}
+use Rattle.contents.specs.Rules.{octetsRule}
+use Rattle.contents.specs.Leaves.{Leaf, ruleOf, bitString, Known, only}
+use Rattle.contents.specs.Scan.{checkedAt, behindAt, contentAt}
 use Rattle.contents.specs.declared.Checked.{Checked}
 use Rattle.contents.specs.declared.Checked.the-variants.{Fine, Wrong}
 use Rattle.items.specs.declared.Tag.{Tag}
@@ -25,6 +26,7 @@ use Rattle.layouts.specs.Scan.{judgedAt, leafAt}
 use Rattle.primitives.specs.declared.Content.{Content}
 use Rattle.primitives.specs.declared.Content.the-variants as content
 use Rattle.primitives.specs.declared.Primitive.{Primitive}
+use Rattle.primitives.specs.declared.Primitive.the-variants as primitive
 use Rattle.primitives.specs.Primitive.{leafOf, says}
 
 -- ---- a head, then a rule
@@ -71,8 +73,34 @@ fits-behind t s p e a z n x i j h l = record { fits = omega (arith, head-inside 
 -- ---- by the case of an enum
 
 module _ (s : List ℕ) (p a z : ℕ) (y : Checked) where
-  pub primitive-rule : (f g : Primitive) → f ≡ g → y ≡ contentAt (leafOf g .front) (ruleOf (leafOf g .holds)) s p a z → y ≡ contentAt (leafOf f .front) (ruleOf (leafOf f .holds)) s p a z
+  pub primitive-rule : (f g : Primitive) → f ≡ g → y ≡ checkedAt (ruleOf (leafOf g .holds)) s p a z → y ≡ checkedAt (ruleOf (leafOf f .holds)) s p a z
   primitive-rule f g i h = rw i h
+
+  -- a content that begins with nothing else is its value
+  pub plain-content : (f : Primitive) (n : ℕ) → n ≡ length (leafOf f .front) → n ≡ 0 → y ≡ checkedAt (ruleOf (leafOf f .holds)) s p a z → y ≡ contentAt (leafOf f .front) (ruleOf (leafOf f .holds)) s p a z
+  plain-content f n i j h = go (leafOf f .front) (sym i ∙ j)
+    where
+      go : (x : List ℕ) → length x ≡ 0 → y ≡ contentAt x (ruleOf (leafOf f .holds)) s p a z
+      go [] e = h
+      go (b ∷ x) e = absurd (omega arith)
+
+  -- only a bit string begins with something
+  pub bits-content : (f : Primitive) (n : ℕ) → n ≡ length (leafOf f .front) → (n ≡ 0 → ⊥) → y ≡ behindAt (bitString .front) (octetsRule never-empty) s p a z → y ≡ contentAt (leafOf f .front) (ruleOf (leafOf f .holds)) s p a z
+  bits-content primitive.Octets n i j h = absurd (j i)
+  bits-content primitive.AnyOctets n i j h = absurd (j i)
+  bits-content primitive.Bits n i j h = h
+  bits-content primitive.Ia5 n i j h = absurd (j i)
+  bits-content primitive.AnyIa5 n i j h = absurd (j i)
+  bits-content primitive.AnyPrintable n i j h = absurd (j i)
+  bits-content primitive.AnyUtf8 n i j h = absurd (j i)
+  bits-content primitive.Identifier n i j h = absurd (j i)
+  bits-content primitive.Time n i j h = absurd (j i)
+  bits-content primitive.Integer n i j h = absurd (j i)
+  bits-content primitive.ListKind n i j h = absurd (j i)
+  bits-content primitive.Millimetres n i j h = absurd (j i)
+  bits-content primitive.Critical n i j h = absurd (j i)
+  bits-content primitive.HeaderName n i j h = absurd (j i)
+  bits-content primitive.Version n i j h = absurd (j i)
 
 pub content-says : (s : List ℕ) (c : Content) (a z : ℕ) (w : List ℕ) (t : Bool) → w ≡ slice a z s → t ≡ same w (0x01 ∷ []) → t ≡ says c (slice a z s)
 content-says s content.Kind1 a z w t i h = rw (← i) h

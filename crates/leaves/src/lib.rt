@@ -10,18 +10,18 @@ use terms::NEVER_EMPTY;
 ghost use mathlib.Core.Path.{_≡_};
 ghost use lib.Seq.{slice};
 ghost use Rattle.contents.specs.Leaves.{ruleOf, only};
-ghost use Rattle.contents.specs.Scan.{contentAt};
+ghost use Rattle.contents.specs.Scan.{checkedAt, contentAt};
 ghost use Rattle.layouts.specs.Scan.{judgedAt, leafAt};
 ghost use Rattle.primitives.specs.Primitive.{leafOf, knownOf, says};
 
-// A content by the rule of its primitive item.
-fn rule(s: &[u8], p: Primitive, at: usize, a: usize, z: usize) -> Checked
-    ensures { λ r. ⌜ r ≡ contentAt (leafOf p .front) (ruleOf (leafOf p .holds)) (now (s .entry)) at a z ⌝ }
+// A value by the rule of its primitive item.
+pub fn rule(s: &[u8], p: Primitive, at: usize, a: usize, z: usize) -> Checked
+    ensures { λ r. ⌜ r ≡ checkedAt (ruleOf (leafOf p .holds)) (now (s .entry)) at a z ⌝ }
 {
     match p {
         Primitive::Octets => octets::octets(s, at, a, z, NEVER_EMPTY),
         Primitive::AnyOctets => octets::octets(s, at, a, z, MAY_BE_EMPTY),
-        Primitive::Bits => octets::bits(s, at, a, z),
+        Primitive::Bits => octets::octets(s, at, a, z, NEVER_EMPTY),
         Primitive::Ia5 => texts::ia5(s, at, a, z, NEVER_EMPTY),
         Primitive::AnyIa5 => texts::ia5(s, at, a, z, MAY_BE_EMPTY),
         Primitive::AnyPrintable => texts::printable(s, at, a, z, MAY_BE_EMPTY),
@@ -37,8 +37,18 @@ fn rule(s: &[u8], p: Primitive, at: usize, a: usize, z: usize) -> Checked
     }
 }
 
+// A content: what it must begin with, as a bit string alone does, then its value's rule.
+fn content(s: &[u8], p: Primitive, at: usize, a: usize, z: usize) -> Checked
+    ensures { λ r. ⌜ r ≡ contentAt (leafOf p .front) (ruleOf (leafOf p .holds)) (now (s .entry)) at a z ⌝ }
+{
+    if primitives::hidden_of(p) == 0 {
+        return rule(s, p, at, a, z);
+    }
+    octets::bits(s, at, a, z)
+}
+
 // What a content's rule answers, as the item or its refusal.
-fn judged(c: Checked, a: usize, z: usize) -> Seen
+pub fn judged(c: Checked, a: usize, z: usize) -> Seen
     ensures { λ r. ⌜ r ≡ judgedAt c a z ⌝ }
 {
     match c {
@@ -55,7 +65,7 @@ pub fn leaf(s: &[u8], p: Primitive, at: usize, end: usize) -> Seen
     let Seen::Item { start: a, end: z } = h else {
         return h;
     };
-    judged(rule(s, p, at, a, z), a + primitives::hidden_of(p), z)
+    judged(content(s, p, at, a, z), a + primitives::hidden_of(p), z)
 }
 
 // A member whose content is known.

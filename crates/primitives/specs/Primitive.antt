@@ -1,6 +1,6 @@
 -- What the names of the code's primitive items stand for. Assumes nothing.
 use Prim.Native.Nat.{ℕ}
-use mathlib.Core.Bool.{Bool}
+use mathlib.Core.Bool.{Bool, true, false}
 use mathlib.Core.List.{List}
 use Rattle.terms.specs.Answer.{may-be-empty, never-empty}
 use Rattle.contents.specs.Integer.{any, isKind, saysKind1, isMillimetres}
@@ -33,6 +33,11 @@ leafOf Version = leaves.only leaves.version
 abbrev pub knownOf : Word → leaves.Known
 knownOf word.HeaderName = leaves.headerName
 knownOf word.Version = leaves.version
+
+-- whether what a primitive item holds is a number
+abbrev pub isNumber : leaves.Holding → Bool
+isNumber (leaves.bytes rule) = false
+isNumber (leaves.number allowed) = true
 
 -- whether a content is the one that is named
 abbrev pub says : Content → List ℕ → Bool

@@ -5,7 +5,7 @@ ghost use Prim.Native.Nat.{_≤_};
 ghost use lib.ListN.{length};
 ghost use Rattle.contents.specs.Leaves.{only};
 ghost use Rattle.items.specs.Scan.{tagByte};
-ghost use Rattle.primitives.specs.Primitive.{leafOf, knownOf};
+ghost use Rattle.primitives.specs.Primitive.{leafOf, knownOf, isNumber};
 
 // What a primitive item holds; `Any`: it may have no bytes. The header's name and the version have one content only.
 pub enum Primitive {
@@ -80,6 +80,29 @@ pub fn hidden_of(p: Primitive) -> usize
         Primitive::Critical => 0,
         Primitive::HeaderName => 0,
         Primitive::Version => 0,
+    }
+}
+
+// Whether a primitive item is an integer of many, whose section in a sheet has eight bytes.
+pub fn is_number(p: Primitive) -> bool
+    ensures { λ r. ⌜ r ≡ isNumber (leafOf p .holds) ⌝ }
+{
+    match p {
+        Primitive::Octets => false,
+        Primitive::AnyOctets => false,
+        Primitive::Bits => false,
+        Primitive::Ia5 => false,
+        Primitive::AnyIa5 => false,
+        Primitive::AnyPrintable => false,
+        Primitive::AnyUtf8 => false,
+        Primitive::Identifier => false,
+        Primitive::Time => false,
+        Primitive::Integer => true,
+        Primitive::ListKind => true,
+        Primitive::Millimetres => true,
+        Primitive::Critical => false,
+        Primitive::HeaderName => false,
+        Primitive::Version => false,
     }
 }
 

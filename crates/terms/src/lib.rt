@@ -84,6 +84,10 @@ pub const TOO_MANY_ITEMS: u8 = 16;
 
 pub const TOO_LARGE: u8 = 17;
 
+pub const BAD_SHEET: u8 = 19;
+
+pub const NO_ROOM: u8 = 20;
+
 // The most bytes of a record, header included.
 pub const LARGEST_RECORD: usize = 65535;
 

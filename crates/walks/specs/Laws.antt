@@ -5,9 +5,9 @@ use native.Mathlib.Omega.{arith}
 use native.Mathlib.Numerals.{add-one}
 use native.Mathlib.Nat.{sub-zero}
 use mathlib.Core.Bool.{Bool, true, false, _||_}
-use mathlib.Core.List.{List, [], _∷_}
+use mathlib.Core.List.{List, _∷_}
 use lib.ListN.{length, getD, drop}
-use lib.Seq.{slice, drop-cons, drop-nil}
+use lib.Seq.{slice}
 use lib.Dec.{ltb}
 use borrow.Author.Tests.{lt-ltb, le-ltb}
 use Rattle.terms.specs.declared.Field.{Field}
@@ -22,7 +22,7 @@ use Rattle.items.specs.declared.Tag.{Tag}
 use Rattle.items.specs.declared.Tag.the-variants as tag
 use Rattle.items.specs.Scan.{tagByte}
 use Rattle.contents.specs.Leaves.{Leaf, only}
-use Rattle.layouts.specs.Layout.{Item, leaf, node, list, wrap, Members, end, _▸_, Member as Part, known, one, maybe, flag, choose, tagOf}
+use Rattle.layouts.specs.Layout.{Item, leaf, list, Members, Member as Part, tagOf}
 use Rattle.layouts.specs.Scan.{thenSeen, thenStep, thenJudge, leafAt, scanMany, scan, recordScan}
 use Rattle.layouts.specs.Whole.{sequence}
 use Rattle.primitives.specs.declared.Content.{Content}
@@ -38,44 +38,13 @@ use Rattle.structures.specs.Structure.{rowOf, layoutOf, itemOf}
 use Rattle.rows.specs.declared.Member.{Member}
 use Rattle.rows.specs.declared.Member.the-variants as member
 use Rattle.rows.specs.Row.{membersOf}
+use Rattle.rows.specs.Size.{from, one-more, none-left}
 use Rattle.layouts.specs.declared.Tally.{Tally}
 use Rattle.layouts.specs.declared.Tally.the-variants.{Items, Refused as Uncounted}
 use Rattle.layouts.specs.Marks.{noted, afterSeen, afterStep, afterTally, thenTally, tally, manyMarks, leafMarks, marks, marksAll, recordMarks}
 use Rattle.entries.specs.Entry.{listHeadAt, leafWalk}
 use Rattle.entries.specs.Laws.{both, answers, tables}
 use Rattle.walks.specs.Walk.{itemWalk, rowWalk, memberWalk, listWalk, recordWalk}
-
--- ---- a number that falls from an item to what stands in it
-
-unfoldable mutual
-  pub size : Item → ℕ
-  size (leaf l) = 0
-  size (node t r) = suc (suc (sizes r))
-  size (list t e n f i) = suc (suc (size i))
-  size (wrap t i) = suc (size i)
-
-  pub sizes : Members → ℕ
-  sizes end = 0
-  sizes (m ▸ r) = sizePart m + sizes r
-
-  pub sizePart : Part → ℕ
-  sizePart (known k) = 0
-  sizePart (one f i) = suc (size i)
-  sizePart (maybe f i) = suc (size i)
-  sizePart (flag f) = 0
-  sizePart (choose f l t g i j) = suc (size i + size j)
-
-unfoldable pub sizeOf : Member → ℕ
-sizeOf member.Blank = 0
-sizeOf (member.Known w) = 0
-sizeOf (member.Leaf f l) = 0
-sizeOf (member.Part f x) = suc (size (layoutOf x))
-sizeOf (member.Maybe f x) = suc (size (layoutOf x))
-sizeOf (member.Flag f) = 0
-sizeOf (member.Choice f l c g x y) = suc (size (layoutOf x) + size (layoutOf y))
-
-pub below : (a b t : ℕ) → b ≡ t → a < b → a < t
-below a b t h k = omega arith
 
 -- ---- an item
 
@@ -198,20 +167,6 @@ module _ (f : Field) (n : ℕ) (s : List ℕ) (p e : ℕ) (d : List ℕ) where
             let x = r ∙ whole-list (tagByte t) o c g (layoutOf u) s a z d in
             rw (l, i) (both (rw (list-scan (tagByte t) o c g (layoutOf u) s p e, ← j, b, ← answers x, y)) (rw (list-marks (tagByte t) o c g (layoutOf u) f n s p e d, ← j, b, ← answers x, y, ← tables x) y′))
 
--- what an item holds is smaller
-module _ (x : Structure) (k : Build) (t : Tag) (l : layoutOf x ≡ itemOf k) where
-  pub node-less : (m : Row) → k ≡ build.Node t m → suc (sizes (rowOf m)) < size (layoutOf x)
-  unfolding size
-  node-less m i = let e : size (layoutOf x) ≡ suc (suc (sizes (rowOf m))) = ap size (l ∙ ap itemOf i) in omega arith
-
-  pub list-less : (o : Bool) (n : ℕ) (f : Field) (u : Structure) → k ≡ build.List t o n f u → suc (size (layoutOf u)) < size (layoutOf x)
-  unfolding size
-  list-less o n f u i = let e : size (layoutOf x) ≡ suc (suc (size (layoutOf u))) = ap size (l ∙ ap itemOf i) in omega arith
-
-  pub wrap-less : (u : Structure) → k ≡ build.Wrap t u → size (layoutOf u) < size (layoutOf x)
-  unfolding size
-  wrap-less u i = let e : size (layoutOf x) ≡ suc (size (layoutOf u)) = ap size (l ∙ ap itemOf i) in omega arith
-
 -- ---- a member
 
 module _ (m : Member) (n : ℕ) (s : List ℕ) (p e : ℕ) (d : List ℕ) where
@@ -266,24 +221,6 @@ module _ (m : Member) (n : ℕ) (s : List ℕ) (p e : ℕ) (d : List ℕ) where
       unfolding memberWalk leafWalk itemWalk scan marks pick
       choice-second y d′ v q = rw i (both (rw (← answers j, b, ← o, v) (answers q)) (rw (← tables j, ← answers j, b, ← o, v) (tables q)))
 
--- what a member holds is smaller
-module _ (m : Member) where
-  pub part-less : (f : Field) (x : Structure) → m ≡ member.Part f x → size (layoutOf x) < sizeOf m
-  unfolding sizeOf
-  part-less f x i = rw i (omega arith)
-
-  pub maybe-less : (f : Field) (x : Structure) → m ≡ member.Maybe f x → size (layoutOf x) < sizeOf m
-  unfolding sizeOf
-  maybe-less f x i = rw i (omega arith)
-
-  pub first-less : (f : Field) (l : Primitive) (c : Content) (g : Field) (x y : Structure) → m ≡ member.Choice f l c g x y → size (layoutOf x) < sizeOf m
-  unfolding sizeOf
-  first-less f l c g x y i = rw i (omega arith)
-
-  pub second-less : (f : Field) (l : Primitive) (c : Content) (g : Field) (x y : Structure) → m ≡ member.Choice f l c g x y → size (layoutOf y) < sizeOf m
-  unfolding sizeOf
-  second-less f l c g x y i = rw i (omega arith)
-
 -- ---- a row
 
 -- a row is its first member, then the rest
@@ -300,63 +237,24 @@ row-split (member.Maybe f x) ms n s p e d = refl
 row-split (member.Flag f) ms n s p e d = refl
 row-split (member.Choice f l c g x y) ms n s p e d = refl
 
-size-split : (m : Member) (ms : List Member) → sizeOf m + sizes (membersOf ms) ≤ sizes (membersOf (m ∷ ms))
-unfolding size sizeOf
-size-split member.Blank ms = omega arith
-size-split (member.Known w) ms = omega arith
-size-split (member.Leaf f l) ms = omega arith
-size-split (member.Part f x) ms = omega arith
-size-split (member.Maybe f x) ms = omega arith
-size-split (member.Flag f) ms = omega arith
-size-split (member.Choice f l c g x y) ms = omega arith
-
--- the members from the k-th on
-unfoldable pub from : ℕ → List Member → Members
-from k ms = membersOf (drop k ms)
-
-module _ (ms : List Member) (d : Member) (k w : ℕ) (n : length ms ≡ w) (r : k < w) where
-  at-k : drop k ms ≡ getD ms k d ∷ drop (k + 1) ms
-  at-k = drop-cons ms k d (omega arith) ∙ ap (λ (n : ℕ). getD ms k d ∷ drop n ms) (sym (add-one k))
-
-  module _ (i : ℕ) (s : List ℕ) (p e : ℕ) (t : List ℕ) (x : Step) (t′ : List ℕ) (g : (x, t′) ≡ memberWalk (getD ms k d) i s p e t) where
-    row-step : rowWalk (from k ms) i s p e t ≡ (onward (x, t′) λ q t. rowWalk (from (k + 1) ms) i s q e t)
-    unfolding from
-    row-step = rw (at-k, row-split (getD ms k d) (drop (k + 1) ms) i s p e t, ← g) refl
-
-    pub row-refused : (n q : ℕ) → x ≡ Refused n q → (x, t′) ≡ rowWalk (from k ms) i s p e t
-    row-refused n q h = rw (row-step, h) refl
-
-    pub row-next : (q : ℕ) → x ≡ Next q → rowWalk (from k ms) i s p e t ≡ rowWalk (from (k + 1) ms) i s q e t′
-    row-next q h = rw (row-step, h) refl
-
-  row-less : sizeOf (getD ms k d) + sizes (from (k + 1) ms) ≤ sizes (from k ms)
+module _ (ms : List Member) (d : Member) (k w : ℕ) (n : length ms ≡ w) (r : k < w) (i : ℕ) (s : List ℕ) (p e : ℕ) (t : List ℕ) (x : Step) (t′ : List ℕ) (g : (x, t′) ≡ memberWalk (getD ms k d) i s p e t) where
+  row-step : rowWalk (from k ms) i s p e t ≡ (onward (x, t′) λ q t. rowWalk (from (k + 1) ms) i s q e t)
   unfolding from
-  row-less = rw at-k (size-split (getD ms k d) (drop (k + 1) ms))
+  row-step = rw (one-more ms d k w n r, row-split (getD ms k d) (drop (k + 1) ms) i s p e t, ← g) refl
 
-  -- a member is less than its node
-  pub member-smaller : (x : Row) (t : ℕ) → suc (sizes (rowOf x)) ≡ t → rowOf x ≡ membersOf ms → sizes (from k ms) ≤ sizes (membersOf ms) → sizeOf (getD ms k d) < t
-  member-smaller x t h g f = let b = row-less in let q : sizes (rowOf x) ≡ sizes (membersOf ms) = ap sizes g in omega arith
+  pub row-refused : (n q : ℕ) → x ≡ Refused n q → (x, t′) ≡ rowWalk (from k ms) i s p e t
+  row-refused n q h = rw (row-step, h) refl
 
--- what is left is no more than the whole
-pub row-fewer : (ms : List Member) (k w : ℕ) → length ms ≡ w → k < w → sizes (from k ms) ≤ sizes (membersOf ms) → sizes (from (k + 1) ms) ≤ sizes (membersOf ms)
-row-fewer ms k w n r h = let b = row-less ms member.Blank k w n r in omega arith
-
-drop-all : (ms : List Member) (k : ℕ) → length ms ≤ k → drop k ms ≡ []
-drop-all [] k h = drop-nil k
-drop-all (x ∷ ms) zero h = absurd (omega arith)
-drop-all (x ∷ ms) (suc k) h = drop-all ms k (omega arith)
+  pub row-next : (q : ℕ) → x ≡ Next q → rowWalk (from k ms) i s p e t ≡ rowWalk (from (k + 1) ms) i s q e t′
+  row-next q h = rw (row-step, h) refl
 
 pub row-over : (ms : List Member) (i : ℕ) (s : List ℕ) (p e k w : ℕ) (t : List ℕ) (y : Step) → length ms ≡ w → w ≤ k → y ≡ closeAt p e → (y, t) ≡ rowWalk (from k ms) i s p e t
-unfolding rowWalk from scan marks
-row-over ms i s p e k w t y n h g = rw (drop-all ms k (omega arith)) (both g refl)
+unfolding rowWalk scan marks
+row-over ms i s p e k w t y n h g = rw (none-left ms k w n h) (both g refl)
 
 pub row-first : (ms : List Member) (i : ℕ) (s : List ℕ) (p e : ℕ) (t : List ℕ) → rowWalk (membersOf ms) i s p e t ≡ rowWalk (from 0 ms) i s p e t
 unfolding from
 row-first ms i s p e t = refl
-
-pub size-first : (ms : List Member) → sizes (from 0 ms) ≤ sizes (membersOf ms)
-unfolding from
-size-first ms = omega arith
 
 pub row-whole : (x : Row) (ms : List Member) (i : ℕ) (s : List ℕ) (a e k p : ℕ) (t₀ t : List ℕ) (y : Step × List ℕ) → rowOf x ≡ membersOf ms
     → rowWalk (membersOf ms) i s a e t₀ ≡ rowWalk (from k ms) i s p e t → y ≡ rowWalk (from k ms) i s p e t → y ≡ rowWalk (rowOf x) i s a e t₀
@@ -417,6 +315,3 @@ pub ruleset list-steps = (over, many-16, many-bad, many-end)
 pub ruleset member-steps = (member-blank, member-known, member-leaf, member-part, maybe-yes, maybe-no, flag-yes, flag-no, choice-refused, choice-first, choice-second)
 
 pub ruleset row-steps = (row-whole, row-refused, row-over)
-
--- what is called is smaller
-pub ruleset smaller = (below, node-less, list-less, wrap-less, part-less, maybe-less, first-less, second-less, member-smaller)

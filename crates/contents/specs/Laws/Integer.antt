@@ -66,7 +66,7 @@ shrink-least (a ∷ b ∷ c) =
     (λ h. rw (pick-yes (eqb a (sign b)) (shrink (b ∷ c)) (a ∷ b ∷ c) h) (omega arith))
     (λ h. rw (pick-no (eqb a (sign b)) (shrink (b ∷ c)) (a ∷ b ∷ c) h) (omega arith))
 
-shrink-back : (x : List ℕ) → replicate (length x - length (shrink x)) (signOf x) ++ shrink x ≡ x
+pub shrink-back : (x : List ℕ) → replicate (length x - length (shrink x)) (signOf x) ++ shrink x ≡ x
 unfolding shrink signOf
 shrink-back [] = refl
 shrink-back (a ∷ []) = refl

@@ -1,5 +1,5 @@
 -- `integers::needed`: the bytes that are left from each turn on have the same content.
-use Rattle.integers.specs.Laws.Number.{shrink-on, shrink-stops, shrink-last}
+use Rattle.integers.specs.Laws.Number.{shrink-stops, shrink-on, shrink-end}
 use mathlib.Core.Path.{_≡_}
 use Rattle.contents.specs.Integer.{shrink}
 use lib.ListN.{length, drop}
@@ -9,22 +9,25 @@ use Rattle.integers.proofs.needed.Statement.{statement}
 use Rattle.integers.proofs.needed.Tie as tie
 
 abbrev Inv-loop : tie.InvT-loop
-Inv-loop b i₀ i = (i ≤ 7) × (length b ≡ 8) × (shrink b ≡ shrink (drop i b))
+Inv-loop c i₀ i = (i ≤ length c) × (shrink c ≡ shrink (drop i c))
 
 abbrev μ-loop : tie.MeasureT-loop
-μ-loop b i₀ i = 7 - i
+μ-loop c i₀ i = length c - i
 
 loop-holds : tie.Need-loop-holds Inv-loop μ-loop
 loop-holds c = search needs
 
-array-read-is-needed : tie.Need-array-read-is-needed Inv-loop μ-loop
-array-read-is-needed c = search needs
+add-loop : tie.Need-add-loop Inv-loop μ-loop
+add-loop c = search needs
+
+shared-slice-read-is-needed : tie.Need-shared-slice-read-is-needed Inv-loop μ-loop
+shared-slice-read-is-needed c = search needs
 
 add-is-needed : tie.Need-add-is-needed Inv-loop μ-loop
 add-is-needed c = search needs
 
-array-read-is-needed-2 : tie.Need-array-read-is-needed-2 Inv-loop μ-loop
-array-read-is-needed-2 c = search needs
+shared-slice-read-is-needed-2 : tie.Need-shared-slice-read-is-needed-2 Inv-loop μ-loop
+shared-slice-read-is-needed-2 c = search needs
 
 is-needed-requires : tie.Need-is-needed-requires Inv-loop μ-loop
 is-needed-requires c κs = search needs
@@ -44,8 +47,11 @@ loop-less c = search needs
 loop-again : tie.Need-loop-again Inv-loop μ-loop
 loop-again c = search (needs, shrink-on)
 
+sub-result-2 : tie.Need-sub-result-2 Inv-loop μ-loop
+sub-result-2 c = search needs
+
 returns-2 : tie.Need-returns-2 Inv-loop μ-loop
-returns-2 c = search (needs, shrink-last)
+returns-2 c = search (needs, shrink-end)
 
 pub needed-spec : {M : Type 1} → statement M
 needed-spec =
@@ -54,13 +60,15 @@ needed-spec =
     Inv-loop
     μ-loop
     loop-holds
-    array-read-is-needed
+    add-loop
+    shared-slice-read-is-needed
     add-is-needed
-    array-read-is-needed-2
+    shared-slice-read-is-needed-2
     is-needed-requires
     sub-result
     returns
     add-i
     loop-less
     loop-again
+    sub-result-2
     returns-2)

@@ -310,22 +310,22 @@ module _ (x : List ℕ) where
       rw (a, b)
 
   -- what is left from here on is the whole answer
-  pub shrink-on : (i : ℕ) (t : Bool) → i < 7 → length x ≡ 8 → shrink x ≡ shrink (drop i x) → t ≡ not (eqb (getD x i 0) (sign (getD x (i + 1) 0))) → t ≡ false → shrink x ≡ shrink (drop (i + 1) x)
+  pub shrink-on : (i : ℕ) (t : Bool) → i + 1 < length x → shrink x ≡ shrink (drop i x) → t ≡ not (eqb (getD x i 0) (sign (getD x (i + 1) 0))) → t ≡ false → shrink x ≡ shrink (drop (i + 1) x)
   unfolding pick
-  shrink-on i t h l e f g = e ∙ shrink-at i (omega arith) ∙ rw (not-false (eqb (getD x i 0) (sign (getD x (i + 1) 0))) (sym f ∙ g))
+  shrink-on i t h e f g = e ∙ shrink-at i h ∙ rw (not-false (eqb (getD x i 0) (sign (getD x (i + 1) 0))) (sym f ∙ g))
 
-  pub shrink-stops : (i : ℕ) (t : Bool) → i < 7 → length x ≡ 8 → shrink x ≡ shrink (drop i x) → t ≡ not (eqb (getD x i 0) (sign (getD x (i + 1) 0))) → t ≡ true → 8 - i ≡ length (shrink x)
+  pub shrink-stops : (i : ℕ) (t : Bool) → i + 1 < length x → shrink x ≡ shrink (drop i x) → t ≡ not (eqb (getD x i 0) (sign (getD x (i + 1) 0))) → t ≡ true → length x - i ≡ length (shrink x)
   unfolding pick
-  shrink-stops i t h l e f g =
-      let q : shrink x ≡ drop i x = e ∙ shrink-at i (omega arith) ∙ rw (not-true (eqb (getD x i 0) (sign (getD x (i + 1) 0))) (sym f ∙ g)) in
-      sym (rw (q, ← l) (length-drop i x))
+  shrink-stops i t h e f g =
+      let q : shrink x ≡ drop i x = e ∙ shrink-at i h ∙ rw (not-true (eqb (getD x i 0) (sign (getD x (i + 1) 0))) (sym f ∙ g)) in
+      sym (rw q (length-drop i x))
 
-  pub shrink-last : (i : ℕ) → 7 ≤ i → i ≤ 7 → length x ≡ 8 → shrink x ≡ shrink (drop i x) → 1 ≡ length (shrink x)
+  pub shrink-end : (i : ℕ) → length x ≤ i + 1 → shrink x ≡ shrink (drop i x) → length x - i ≡ length (shrink x)
   unfolding shrink
-  shrink-last i h h′ l e = sym (rw e (go (drop i x) (length-drop i x ∙ omega arith)))
+  shrink-end i h e = sym (rw e (go (drop i x) (omega (arith, length-drop i x)) ∙ length-drop i x))
     where
-      go : (y : List ℕ) → length y ≡ 1 → length (shrink y) ≡ 1
-      go [] k = k
+      go : (y : List ℕ) → length y ≤ 1 → length (shrink y) ≡ length y
+      go [] k = refl
       go (a ∷ []) k = refl
       go (a ∷ b ∷ y) k = absurd (omega arith)
 

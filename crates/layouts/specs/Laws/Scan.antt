@@ -6,7 +6,7 @@ use native.Mathlib.Omega.{arith}
 use native.Mathlib.Nat.{add-zero}
 use mathlib.Core.Bool.{Bool, true, false, _&&_, _||_}
 use mathlib.Core.List.{List, [], _∷_, _++_, append-assoc}
-use lib.ListN.{length, getD, take, drop, length-append}
+use lib.ListN.{length, getD, take, drop, length-append, length-take}
 use lib.Seq.{take-length, slice, slice-empty, slice-cons, length-slice, drop-drop, take-add, drop-at, take-at, length-take-le, take-take}
 use lib.Dec.{ltb, eqb, ltb→lt, nltb→le}
 use borrow.Author.Tests.{lt-ltb, le-ltb}
@@ -32,16 +32,16 @@ use Rattle.layouts.specs.Laws.Reading.{behind-back, backward, backwardPa
 -- ---- windows of a slice
 
 -- a window that is two lists in a row: the second is the window from there on
-rest-slice : (p e : ℕ) (s a r : List ℕ) → slice p e s ≡ a ++ r → r ≡ slice (p + length a) e s
+pub rest-slice : (p e : ℕ) (s a r : List ℕ) → slice p e s ≡ a ++ r → r ≡ slice (p + length a) e s
 rest-slice p e s a r h = sym (drop-at a r (length a) refl) ∙ ap (drop (length a)) (sym h) ∙ drop-drop (length a) p (take e s)
 
 drop-take : (q n : ℕ) (l : List ℕ) → q ≤ length l → take n (drop q l) ≡ drop q (take (q + n) l)
 drop-take q n l h = sym (ap (drop q) (take-add q n l) ∙ drop-at (take q l) (take n (drop q l)) q (length-take-le q l h))
 
-front-slice : (p e : ℕ) (s a r : List ℕ) → p ≤ e → e ≤ length s → slice p e s ≡ a ++ r → a ≡ slice p (p + length a) s
-front-slice p e s a r h k q =
-    let l : length a + length r ≡ e - p = sym (length-append a r) ∙ ap length (sym q) ∙ length-slice p e s k in
-    let m : length (take e s) ≡ e = length-take-le e s k in
+-- and the first is the window up to there
+pub front-slice : (p e : ℕ) (s a r : List ℕ) → slice p e s ≡ a ++ r → p + length a ≤ length (take e s) → a ≡ slice p (p + length a) s
+front-slice p e s a r q h =
+    let m = length-take e s in
     sym (take-at a r (length a) refl) ∙ ap (take (length a)) (sym q) ∙ drop-take p (length a) (take e s) (omega arith)
     ∙ ap (drop p) (take-take (p + length a) e s (omega arith))
 
@@ -49,14 +49,14 @@ front-slice p e s a r h k q =
 abbrev pub Onward : List ℕ → ℕ → ℕ → List ℕ → ℕ → Type 0
 Onward s p e r n = (r ≡ slice n e s) × (p ≤ n) × (n ≤ e)
 
-onward : (p e : ℕ) (s a r : List ℕ) (n : ℕ) → p ≤ e → e ≤ length s → slice p e s ≡ a ++ r → n ≡ p + length a → Onward s p e r n
+pub onward : (p e : ℕ) (s a r : List ℕ) (n : ℕ) → p ≤ e → e ≤ length s → slice p e s ≡ a ++ r → n ≡ p + length a → Onward s p e r n
 onward p e s a r n h k q m =
     let l : length a + length r ≡ e - p = sym (length-append a r) ∙ ap length (sym q) ∙ length-slice p e s k in
     (rest-slice p e s a r q ∙ ap (λ (z : ℕ). slice z e s) (sym m), omega arith, omega arith)
 
 -- ---- a reading as a caller sees it
 
-abbrev out : {A : Type 0} → (A → ℕ) → Res A → Step
+abbrev pub out : {A : Type 0} → (A → ℕ) → Res A → Step
 out f (good a) = Next (f a)
 out f (fault n q) = Refused n q
 
@@ -66,17 +66,17 @@ step r = out (λ x. x .after) r
 abbrev pub whole : {A : Type 0} → ℕ → Res A → Step
 whole e r = out (λ x. e) r
 
-seen-bind : {A : Type 0} (g : A → ℕ) (h : Res Cut) (k : ℕ → ℕ → Step) (K : Cut → Res A) → ((c : Cut) → h ≡ good c → k (c .start) (next c) ≡ out g (K c)) → thenSeen (seen h) k ≡ out g (bind h K)
+pub seen-bind : {A : Type 0} (g : A → ℕ) (h : Res Cut) (k : ℕ → ℕ → Step) (K : Cut → Res A) → ((c : Cut) → h ≡ good c → k (c .start) (next c) ≡ out g (K c)) → thenSeen (seen h) k ≡ out g (bind h K)
 unfolding bind
 seen-bind g (good c) k K f = f c refl
 seen-bind g (fault n q) k K f = refl
 
-out-bind : {A B : Type 0} (f : A → ℕ) (g : B → ℕ) (r : Res A) (k : ℕ → Step) (K : A → Res B) → ((a : A) → r ≡ good a → k (f a) ≡ out g (K a)) → thenStep (out f r) k ≡ out g (bind r K)
+pub out-bind : {A B : Type 0} (f : A → ℕ) (g : B → ℕ) (r : Res A) (k : ℕ → Step) (K : A → Res B) → ((a : A) → r ≡ good a → k (f a) ≡ out g (K a)) → thenStep (out f r) k ≡ out g (bind r K)
 unfolding bind
 out-bind f g (good a) k K h = h a refl
 out-bind f g (fault n q) k K h = refl
 
-out-map : {A B : Type 0} (f : A → ℕ) (g : B → ℕ) (r : Res A) (k : A → B) → ((a : A) → f a ≡ g (k a)) → out f r ≡ out g (bind r λ a. good (k a))
+pub out-map : {A B : Type 0} (f : A → ℕ) (g : B → ℕ) (r : Res A) (k : A → B) → ((a : A) → f a ≡ g (k a)) → out f r ≡ out g (bind r λ a. good (k a))
 unfolding bind
 out-map f g (good a) k h = ap Next (h a)
 out-map f g (fault n q) k h = refl
@@ -91,18 +91,18 @@ unfolding judge judgedAt
 seen-judge fine p c = refl
 seen-judge (wrong n x) p c = refl
 
-out-need : {A : Type 0} (g : A → ℕ) (t : Bool) (n p : ℕ) (x : Step) (y : Res A) → x ≡ out g y → pick t x (Refused n p) ≡ out g (need t n p y)
+pub out-need : {A : Type 0} (g : A → ℕ) (t : Bool) (n p : ℕ) (x : Step) (y : Res A) → x ≡ out g y → pick t x (Refused n p) ≡ out g (need t n p y)
 unfolding need pick
 out-need g true n p x y h = h
 out-need g false n p x y h = refl
 
-out-pick : {A : Type 0} (g : A → ℕ) (t : Bool) (x x′ : Step) (y y′ : Res A) → x ≡ out g y → x′ ≡ out g y′ → pick t x x′ ≡ out g (pick t y y′)
+pub out-pick : {A : Type 0} (g : A → ℕ) (t : Bool) (x x′ : Step) (y y′ : Res A) → x ≡ out g y → x′ ≡ out g y′ → pick t x x′ ≡ out g (pick t y y′)
 unfolding pick
 out-pick g true x x′ y y′ h h′ = h
 out-pick g false x x′ y y′ h h′ = h′
 
 -- one of two, after the content that decides
-choose-read : {A B : Type 0} (f : List ℕ → ℕ → Res (Got A)) (g : List ℕ → ℕ → Res (Got B)) (t : Bool) (k w : List ℕ) (b : ℕ)
+pub choose-read : {A B : Type 0} (f : List ℕ → ℕ → Res (Got A)) (g : List ℕ → ℕ → Res (Got B)) (t : Bool) (k w : List ℕ) (b : ℕ)
     → pick t (step (f w b)) (step (g w b)) ≡ step {A = List ℕ × (A ⊎ B)} (bind (readEither t f g w b) λ a. good (got (k, a .value) (a .rest) (a .after)))
 unfolding pick readEither bind
 choose-read {A} {B} f g true k w b = go (f w b)
@@ -137,7 +137,8 @@ module _ (s : List ℕ) where
       let a : List ℕ = t ∷ octets forms (length (c .content)) in
       let o = onward p e s a (c .content ++ c .rest) (c .start) pe es (b .0 ∙ append-assoc a (c .content) (c .rest)) (b .1 ∙ omega arith) in
       let o′ = onward (c .start) e s (c .content) (c .rest) (next c) (o .2) es (sym (o .0)) refl in
-      (front-slice (c .start) e s (c .content) (c .rest) (o .2) es (sym (o .0)), o′ .0, o .1, o′ .2)
+      let l : length (take e s) ≡ e = length-take-le e s es in
+      (front-slice (c .start) e s (c .content) (c .rest) (sym (o .0)) (omega (arith, o′ .2)), o′ .0, o .1, o′ .2)
 
   -- a primitive item's value too, behind what its content begins with
   behind-parts : (f : List ℕ) (p e b : ℕ) (c v : Cut) → behind f b c ≡ good v → Parts p e c → Parts p e v × (next v ≡ next c)

@@ -33,15 +33,15 @@ count-there : (n p : ℕ) (w : List ℕ) → n < uncounted → readCount (count 
 unfolding readCount count have
 count-there n p w h = rw (leading-there count-bytes n w h)
 
-count-back : (w : List ℕ) (p : ℕ) (x : ℕ × List ℕ) → readCount w p ≡ good x → w ≡ count (x .0) ++ x .1
+pub count-back : (w : List ℕ) (p : ℕ) (x : ℕ × List ℕ) → readCount w p ≡ good x → w ≡ count (x .0) ++ x .1
 unfolding readCount count
 count-back w p x e = by-have _ _ _ _ e λ h. leading-back count-bytes w x h .0
 
-length-count : (n : ℕ) → length (count n) ≡ count-bytes
+pub length-count : (n : ℕ) → length (count n) ≡ count-bytes
 unfolding count
 length-count n = length-digits 256 (omega arith) count-bytes n
 
-length-section : (x : List ℕ) → length (section x) ≡ count-bytes + length x
+pub length-section : (x : List ℕ) → length (section x) ≡ count-bytes + length x
 unfolding section
 length-section x = omega (arith, length-append (count (length x)) x, length-count (length x))
 
@@ -51,7 +51,7 @@ section-there x w p h =
     let e : length x ≤ length (x ++ w) = rw length-append (omega arith) in
     rw (append-assoc (count (length x)) x w, count-there (length x) p (x ++ w) h, le-leb (length x) (length (x ++ w)) e, take-append-seam, drop-append-seam)
 
-section-back : (w : List ℕ) (p : ℕ) (c : Cut) → readSection w p ≡ good c → (w ≡ section (c .content) ++ c .rest) × (next c ≡ p + length (section (c .content)))
+pub section-back : (w : List ℕ) (p : ℕ) (c : Cut) → readSection w p ≡ good c → (w ≡ section (c .content) ++ c .rest) × (next c ≡ p + length (section (c .content)))
 unfolding readSection section
 section-back w p x e =
     by-bind _ _ _ e λ n e₁ e₂. by-need _ _ _ _ _ e₂ λ h e₃.

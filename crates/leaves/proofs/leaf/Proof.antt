@@ -19,8 +19,8 @@ enum-told c = search needs
 returns : tie.Need-returns
 returns c = search (needs, leaf-refused)
 
-rule-requires : tie.Need-rule-requires
-rule-requires c κs = search needs
+content-requires : tie.Need-content-requires
+content-requires c κs = search needs
 
 hidden-of-requires : tie.Need-hidden-of-requires
 hidden-of-requires c κs = search needs
@@ -43,7 +43,7 @@ leaf-spec =
     enum-known-h
     enum-told
     returns
-    rule-requires
+    content-requires
     hidden-of-requires
     add-judged
     judged-requires

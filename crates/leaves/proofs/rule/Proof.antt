@@ -1,4 +1,4 @@
--- `leaves::rule`: each primitive item by its own rule.
+-- `leaves::rule`: each value by its primitive item's own rule.
 use Rattle.leaves.specs.Laws.{primitive-rule}
 use borrow.Author.Needs.{needs}
 use Rattle.leaves.proofs.rule.Statement.{statement}
@@ -19,8 +19,8 @@ octets-requires-2 c κs = search needs
 enum-told-3 : tie.Need-enum-told-3
 enum-told-3 c = search needs
 
-bits-requires : tie.Need-bits-requires
-bits-requires c κs = search needs
+octets-requires-3 : tie.Need-octets-requires-3
+octets-requires-3 c κs = search needs
 
 enum-told-4 : tie.Need-enum-told-4
 enum-told-4 c = search needs
@@ -148,7 +148,7 @@ rule-spec =
     enum-told-2
     octets-requires-2
     enum-told-3
-    bits-requires
+    octets-requires-3
     enum-told-4
     ia5-requires
     enum-told-5

@@ -1,0 +1,177 @@
+-- A count, a section and a value in it by positions, a law for each step. Assumes nothing.
+use mathlib.Core.Path.{_≡_, refl, sym, ap, _∙_}
+use Prim.Native.Nat.{ℕ, suc, _+_, _-_, _*_, _^_, _≤_, _<_}
+use native.Mathlib.Omega.{arith}
+use mathlib.Core.Bool.{Bool, true, false, not}
+use mathlib.Core.Option.{some}
+use mathlib.Core.List.{List, [], _∷_}
+use lib.ListN.{length, getD, take, drop, length-append, length-drop, length-take}
+use lib.Seq.{slice, length-take-le}
+use mir.Syntax.{w64}
+use mir.Val.{Fits}
+use borrow.Author.Tests.{lt-ltb, le-leb, lt-leb, eq-eqb, ne-eqb, not-true, not-false}
+use Rattle.terms.specs.Numbers.{bad-sheet}
+use Rattle.terms.specs.Answer.{Res, good, fault, pick, bind, need, have, every, same}
+use Rattle.terms.specs.Digits.{numberFrom, leading}
+use Rattle.terms.specs.Laws.Answer.{never}
+use Rattle.heads.specs.Scan.{pastOf}
+use Rattle.heads.specs.declared.Seen.{Seen}
+use Rattle.heads.specs.declared.Seen.the-variants.{Item as At, Refused as Bad}
+use Rattle.heads.specs.declared.Step.{Step}
+use Rattle.heads.specs.declared.Step.the-variants.{Next, Refused}
+use Rattle.contents.specs.Integer.{section-bytes, shrink}
+use Rattle.contents.specs.Leaves.{Holding, bytes, number, Leaf, ruleOf}
+use Rattle.contents.specs.Scan.{checkedAt}
+use Rattle.contents.specs.declared.Checked.{Checked}
+use Rattle.layouts.specs.Scan.{judgedAt}
+use Rattle.layouts.specs.Sheet.{count-bytes, count, readCount, readSection}
+use Rattle.layouts.specs.SheetScan.{counted, countAt, sectionAt, valueAt, leafSectionAt, flagSectionAt}
+use Rattle.layouts.specs.declared.Tally.{Tally}
+use Rattle.layouts.specs.declared.Tally.the-variants.{Items, Refused as Uncounted}
+use Rattle.layouts.specs.Laws.Scan.{rest-slice}
+use Rattle.layouts.specs.Laws.Sheet.{count-back, length-count}
+use Rattle.primitives.specs.declared.Primitive.{Primitive}
+use Rattle.primitives.specs.Primitive.{leafOf, isNumber}
+
+-- ---- a count
+
+-- the number of four bytes
+pub four-bytes : (w : List ℕ) (a b c d : ℕ) → count-bytes ≤ length w → (a ≡ getD w 0 0) × (a < 256) → (b ≡ getD w 1 0) × (b < 256) → (c ≡ getD w 2 0) × (c < 256) → (d ≡ getD w 3 0) × (d < 256)
+    → leading count-bytes w ≡ some (((a * 256 + b) * 256 + c) * 256 + d, drop count-bytes w)
+unfolding leading every numberFrom pick
+four-bytes w a b c d h (i, i′) (j, j′) (k, k′) (l, l′) = go w h i j k l
+  where
+    go : (w : List ℕ) → count-bytes ≤ length w → a ≡ getD w 0 0 → b ≡ getD w 1 0 → c ≡ getD w 2 0 → d ≡ getD w 3 0 → leading count-bytes w ≡ some (((a * 256 + b) * 256 + c) * 256 + d, drop count-bytes w)
+    go (x ∷ y ∷ z ∷ u ∷ w) h i j k l =
+        let n : count-bytes ≤ suc (suc (suc (suc (length w)))) = omega arith in
+        let m : (((0 * 256 + a) * 256 + b) * 256 + c) * 256 + d ≡ ((a * 256 + b) * 256 + c) * 256 + d = omega arith in
+        rw (← i, ← j, ← k, ← l, le-leb count-bytes (suc (suc (suc (suc (length w))))) n, lt-ltb a 256 i′, lt-ltb b 256 j′, lt-ltb c 256 k′, lt-ltb d 256 l′, m) refl
+    go [] h i j k l = absurd (omega arith)
+    go (x ∷ []) h i j k l = absurd (omega arith)
+    go (x ∷ y ∷ []) h i j k l = absurd (omega arith)
+    go (x ∷ y ∷ z ∷ []) h i j k l = absurd (omega arith)
+
+module _ (s w : List ℕ) (p e : ℕ) (i : w ≡ slice p e s) where
+  pub count-cut : length w < count-bytes → Uncounted bad-sheet p ≡ countAt s p e
+  unfolding countAt readCount leading have pick
+  count-cut h = rw (← i, lt-leb count-bytes (length w) h)
+
+  pub count-there : (n : ℕ) (r : List ℕ) → leading count-bytes w ≡ some (n, r) → Items n ≡ countAt s p e
+  unfolding countAt readCount have
+  count-there n r h = rw (← i, h)
+
+-- ---- a section
+
+module _ (s : List ℕ) (p e : ℕ) (c : Tally) (j : c ≡ countAt s p e) where
+  pub section-cut : (n q : ℕ) → c ≡ Uncounted n q → Bad n q ≡ sectionAt s p e
+  unfolding countAt sectionAt readSection bind
+  section-cut n q h = go (readCount (slice p e s) p) refl (sym j ∙ h)
+    where
+      go : (r : Res (ℕ × List ℕ)) → readCount (slice p e s) p ≡ r → counted r ≡ Uncounted n q → Bad n q ≡ sectionAt s p e
+      go (good m) o g = never (cc)
+      go (fault m x) o g = let a : m ≡ n = cc in let b : x ≡ q = cc in rw (o, a, b)
+
+  module _ (n : ℕ) (h : c ≡ Items n) where
+    -- what stands behind the count
+    behind : readCount (slice p e s) p ≡ good (n, slice (p + count-bytes) e s)
+    unfolding countAt
+    behind = go (readCount (slice p e s) p) refl (sym j ∙ h)
+      where
+        go : (r : Res (ℕ × List ℕ)) → readCount (slice p e s) p ≡ r → counted r ≡ Items n → readCount (slice p e s) p ≡ good (n, slice (p + count-bytes) e s)
+        go (good m) o g =
+            let a : m .0 ≡ n = cc in
+            let q : m .1 ≡ slice (p + count-bytes) e s = rest-slice p e s (count (m .0)) (m .1) (count-back (slice p e s) p m o) ∙ ap (λ (k : ℕ). slice (p + k) e s) (length-count (m .0)) in
+            o ∙ rw (← a, ← q) refl
+        go (fault m x) o g = never (cc)
+
+    count-inside : p + count-bytes + length (slice (p + count-bytes) e s) ≤ length s
+    count-inside =
+        let w : List ℕ = slice (p + count-bytes) e s in
+        let q : length (slice p e s) ≡ length (count n) + length w = ap length (count-back (slice p e s) p (n, w) behind) ∙ length-append (count n) w in
+        let r : length (slice p e s) ≡ length (take e s) - p = length-drop p (take e s) in
+        omega (arith, length-count n, length-take e s)
+
+    pub fits-count : length s * 1 < 2 ^ 63 → Fits w64 (p + count-bytes)
+    fits-count l = record { fits = omega (arith, count-inside) }
+
+    module _ (w : List ℕ) (i : w ≡ slice (p + count-bytes) e s) where
+      pub section-past : length w < n → Bad bad-sheet p ≡ sectionAt s p e
+      unfolding sectionAt readSection bind need
+      section-past k = rw (behind, ← i, lt-leb n (length w) k)
+
+      pub section-there : n ≤ length w → At (p + count-bytes) (p + count-bytes + n) ≡ sectionAt s p e
+      unfolding sectionAt readSection bind need
+      section-there k = rw (behind, ← i, le-leb n (length w) k, length-take-le n w k)
+
+      pub fits-section : n ≤ length w → length s * 1 < 2 ^ 63 → Fits w64 (p + count-bytes + n)
+      fits-section k l = let m : length w ≡ length (slice (p + count-bytes) e s) = ap length i in record { fits = omega (arith, count-inside) }
+
+-- ---- the value in a section
+
+module _ (f : Primitive) (s : List ℕ) (p a z : ℕ) (t : Bool) (i : t ≡ isNumber (leafOf f .holds)) where
+  pub value-bytes : not t ≡ true → At a z ≡ valueAt (leafOf f .holds) s p a z
+  value-bytes h = go (leafOf f .holds) (sym i ∙ not-true t h)
+    where
+      go : (x : Holding) → isNumber x ≡ false → At a z ≡ valueAt x s p a z
+      go (bytes rule) e = refl
+      go (number allowed) e = never (cc)
+
+  module _ (h : not t ≡ false) (w : List ℕ) (j : w ≡ slice a z s) where
+    pub value-cut : (length w ≡ section-bytes → ⊥) → Bad bad-sheet p ≡ valueAt (leafOf f .holds) s p a z
+    unfolding pick
+    value-cut k = go (leafOf f .holds) (sym i ∙ not-false t h)
+      where
+        go : (x : Holding) → isNumber x ≡ true → Bad bad-sheet p ≡ valueAt x s p a z
+        go (bytes rule) e = never (cc)
+        go (number allowed) e = rw (← j, ne-eqb (length w) section-bytes k)
+
+    pub value-number : (n : ℕ) → length w ≡ section-bytes → n ≡ length (shrink w) → At (a + (section-bytes - n)) z ≡ valueAt (leafOf f .holds) s p a z
+    unfolding pick
+    value-number n k g = go (leafOf f .holds) (sym i ∙ not-false t h)
+      where
+        go : (x : Holding) → isNumber x ≡ true → At (a + (section-bytes - n)) z ≡ valueAt x s p a z
+        go (bytes rule) e = never (cc)
+        go (number allowed) e = rw (← j, eq-eqb (length w) section-bytes k, g)
+
+-- so there is room for where it starts
+pub fits-value : (s w : List ℕ) (a z n : ℕ) → w ≡ slice a z s → length w ≡ section-bytes → length s * 1 < 2 ^ 63 → Fits w64 (a + (section-bytes - n))
+fits-value s w a z n j k l =
+    let q : length w ≡ length (take z s) - a = ap length j ∙ length-drop a (take z s) in
+    record { fits = omega (arith, length-take z s) }
+
+-- ---- the section of a primitive item
+
+module _ (l : Leaf) (s : List ℕ) (p e : ℕ) (h : Seen) (j : h ≡ sectionAt s p e) where
+  pub leaf-cut : (n q : ℕ) → h ≡ Bad n q → h ≡ leafSectionAt l s p e
+  unfolding leafSectionAt
+  leaf-cut n q b = rw (← j, b)
+
+  module _ (a z : ℕ) (b : h ≡ At a z) (v : Seen) (k : v ≡ valueAt (l .holds) s p a z) where
+    pub leaf-no-value : (n q : ℕ) → v ≡ Bad n q → v ≡ leafSectionAt l s p e
+    unfolding leafSectionAt
+    leaf-no-value n q o = rw (← j, b, ← k, o)
+
+    pub leaf-judged : (x y : ℕ) (c : Checked) (u : Seen) → v ≡ At x y → c ≡ checkedAt (ruleOf (l .holds)) s p x y → u ≡ judgedAt c x y → u ≡ leafSectionAt l s p e
+    unfolding leafSectionAt
+    leaf-judged x y c u o g r = rw (← j, b, ← k, o, ← g) r
+
+-- ---- the section of critical
+
+module _ (s : List ℕ) (p e : ℕ) (h : Seen) (j : h ≡ sectionAt s p e) where
+  pub flag-cut : (n q : ℕ) (y : Step) → h ≡ Bad n q → y ≡ pastOf h → y ≡ flagSectionAt s p e
+  unfolding flagSectionAt
+  flag-cut n q y b g = rw (← j, b) (g ∙ ap pastOf b)
+
+  module _ (a z : ℕ) (b : h ≡ At a z) (w : List ℕ) (i : w ≡ slice a z s) (t : Bool) (f : t ≡ same w (0 ∷ [])) where
+    pub flag-zero : t ≡ true → Next z ≡ flagSectionAt s p e
+    unfolding flagSectionAt pick
+    flag-zero g = rw (← j, b, ← i, ← f, g)
+
+    module _ (g : t ≡ false) (u : Bool) (k : u ≡ same w (1 ∷ [])) where
+      pub flag-one : u ≡ true → Next z ≡ flagSectionAt s p e
+      unfolding flagSectionAt pick
+      flag-one o = rw (← j, b, ← i, ← f, g, ← k, o)
+
+      pub flag-bad : u ≡ false → Refused bad-sheet p ≡ flagSectionAt s p e
+      unfolding flagSectionAt pick
+      flag-bad o = rw (← j, b, ← i, ← f, g, ← k, o)
