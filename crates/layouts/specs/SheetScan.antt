@@ -1,7 +1,7 @@
 -- Reading a sheet by positions: where what follows an item's sections starts, or the refusal. Assumes nothing.
 -- Nobody has to believe this page: `Laws.SheetScan` proves that it is `Sheet`, and code is proved against its steps.
 use Prim.Native.Nat.{ℕ, suc, zero, _+_, _-_}
-use mathlib.Core.Bool.{_||_}
+use mathlib.Core.Bool.{Bool, _||_}
 use mathlib.Core.List.{List, [], _∷_}
 use lib.ListN.{length}
 use lib.Seq.{slice}
@@ -35,6 +35,14 @@ abbrev pub thenCount : Tally → (ℕ → Step) → Step
 thenCount (Items n) k = k n
 thenCount (Uncounted n p) k = Refused n p
 
+-- the count of a list: 15 and 16 stand at it
+abbrev pub withinOf : Bool → ℕ → ℕ → Tally → Tally
+withinOf k n p (Items c) = pick (k || ltb 0 c) (pick (leb c n) (Items c) (Uncounted too-many-items p)) (Uncounted no-item p)
+withinOf k n p (Uncounted m q) = Uncounted m q
+
+unfoldable pub listCountAt : Bool → ℕ → List ℕ → ℕ → ℕ → Tally
+listCountAt k n s p e = withinOf k n p (countAt s p e)
+
 -- where a section's bytes lie
 unfoldable pub sectionAt : List ℕ → ℕ → ℕ → Seen
 sectionAt s p e = seen (readSection (slice p e s) p)
@@ -63,9 +71,7 @@ unfoldable mutual
   pub sheetScan : Item → List ℕ → ℕ → ℕ → Step
   sheetScan (leaf l) s p e = thenSeen (leafSectionAt l s p e) λ a z. Next z
   sheetScan (node t r) s p e = sheetScans r s p e
-  sheetScan (list t k n f i) s p e =
-      thenCount (countAt s p e) λ c.
-      pick (k || ltb 0 c) (pick (leb c n) (timesScan (λ q. sheetScan i s q e) c (p + count-bytes)) (Refused too-many-items p)) (Refused no-item p)
+  sheetScan (list t k n f i) s p e = thenCount (listCountAt k n s p e) λ c. timesScan (λ q. sheetScan i s q e) c (p + count-bytes)
   sheetScan (wrap t i) s p e = sheetScan i s p e
 
   pub sheetScans : Members → List ℕ → ℕ → ℕ → Step

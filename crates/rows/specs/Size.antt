@@ -128,5 +128,14 @@ pub none-left : (ms : List Member) (k w : ℕ) → length ms ≡ w → w ≤ k �
 unfolding from
 none-left ms k w n h = rw (drop-all ms k (omega arith))
 
--- what is called is smaller
+-- ---- a loop: what is left after each turn is the whole answer
+
+pub chain : {A : Type 0} (x y z : A) → x ≡ y → y ≡ z → x ≡ z
+chain x y z e f = e ∙ f
+
+pub over : {A : Type 0} (x y z : A) → x ≡ y → z ≡ y → z ≡ x
+over x y z e f = f ∙ sym e
+
+-- ---- what is called is smaller
+
 pub ruleset smaller = (below, node-less, list-less, wrap-less, part-less, maybe-less, first-less, second-less, member-smaller)

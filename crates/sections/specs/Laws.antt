@@ -2,15 +2,16 @@
 use mathlib.Core.Path.{_≡_, refl, sym, ap, _∙_}
 use Prim.Native.Nat.{ℕ, suc, _+_, _-_, _*_, _^_, _≤_, _<_}
 use native.Mathlib.Omega.{arith}
-use mathlib.Core.Bool.{Bool, true, false, not}
+use mathlib.Core.Bool.{Bool, true, false, not, _||_}
 use mathlib.Core.Option.{some}
 use mathlib.Core.List.{List, [], _∷_}
 use lib.ListN.{length, getD, take, drop, length-append, length-drop, length-take}
 use lib.Seq.{slice, length-take-le}
+use lib.Dec.{ltb}
 use mir.Syntax.{w64}
 use mir.Val.{Fits}
 use borrow.Author.Tests.{lt-ltb, le-leb, lt-leb, eq-eqb, ne-eqb, not-true, not-false}
-use Rattle.terms.specs.Numbers.{bad-sheet}
+use Rattle.terms.specs.Numbers.{no-item, too-many-items, bad-sheet}
 use Rattle.terms.specs.Answer.{Res, good, fault, pick, bind, need, have, every, same}
 use Rattle.terms.specs.Digits.{numberFrom, leading}
 use Rattle.terms.specs.Laws.Answer.{never}
@@ -25,7 +26,7 @@ use Rattle.contents.specs.Scan.{checkedAt}
 use Rattle.contents.specs.declared.Checked.{Checked}
 use Rattle.layouts.specs.Scan.{judgedAt}
 use Rattle.layouts.specs.Sheet.{count-bytes, count, readCount, readSection}
-use Rattle.layouts.specs.SheetScan.{counted, countAt, sectionAt, valueAt, leafSectionAt, flagSectionAt}
+use Rattle.layouts.specs.SheetScan.{counted, countAt, listCountAt, sectionAt, valueAt, leafSectionAt, flagSectionAt}
 use Rattle.layouts.specs.declared.Tally.{Tally}
 use Rattle.layouts.specs.declared.Tally.the-variants.{Items, Refused as Uncounted}
 use Rattle.layouts.specs.Laws.Scan.{rest-slice}
@@ -59,6 +60,26 @@ module _ (s w : List ℕ) (p e : ℕ) (i : w ≡ slice p e s) where
   pub count-there : (n : ℕ) (r : List ℕ) → leading count-bytes w ≡ some (n, r) → Items n ≡ countAt s p e
   unfolding countAt readCount have
   count-there n r h = rw (← i, h)
+
+-- ---- a list's count
+
+module _ (o : Bool) (m : ℕ) (s : List ℕ) (p e : ℕ) (c : Tally) (j : c ≡ countAt s p e) where
+  pub list-cut : (n q : ℕ) → c ≡ Uncounted n q → c ≡ listCountAt o m s p e
+  unfolding listCountAt
+  list-cut n q h = rw (← j, h)
+
+  module _ (n : ℕ) (h : c ≡ Items n) (b : Bool) (i : b ≡ o || ltb 0 n) where
+    pub list-none : not b ≡ true → Uncounted no-item p ≡ listCountAt o m s p e
+    unfolding listCountAt pick
+    list-none k = rw (← j, h, ← i, not-true b k)
+
+    pub list-many : not b ≡ false → m < n → Uncounted too-many-items p ≡ listCountAt o m s p e
+    unfolding listCountAt pick
+    list-many k l = rw (← j, h, ← i, not-false b k, lt-leb n m l)
+
+    pub list-some : not b ≡ false → n ≤ m → Items n ≡ listCountAt o m s p e
+    unfolding listCountAt pick
+    list-some k l = rw (← j, h, ← i, not-false b k, le-leb n m l)
 
 -- ---- a section
 

@@ -4,13 +4,15 @@ use heads::Step;
 use layouts::Tally;
 use primitives::Primitive;
 use terms::BAD_SHEET;
+use terms::NO_ITEM;
+use terms::TOO_MANY_ITEMS;
 ghost use mathlib.Core.Path.{_≡_};
 ghost use mathlib.Core.Option.{some};
 ghost use Prim.Native.Nat.{_≤_, _<_};
 ghost use lib.ListN.{length, drop};
 ghost use Rattle.terms.specs.Digits.{leading};
 ghost use Rattle.layouts.specs.Sheet.{count-bytes};
-ghost use Rattle.layouts.specs.SheetScan.{countAt, sectionAt, valueAt, leafSectionAt, flagSectionAt};
+ghost use Rattle.layouts.specs.SheetScan.{countAt, listCountAt, sectionAt, valueAt, leafSectionAt, flagSectionAt};
 ghost use Rattle.primitives.specs.Primitive.{leafOf};
 
 // How many bytes a count has.
@@ -43,6 +45,23 @@ pub fn count(s: &[u8], at: usize, end: usize) -> Tally
         return Tally::Refused(BAD_SHEET, at);
     }
     Tally::Items(four(w))
+}
+
+// The count of a list of at most `most` items: 19, then 15 where it has none and needs one, then 16.
+pub fn list_count(s: &[u8], empty: bool, most: usize, at: usize, end: usize) -> Tally
+    ensures { λ r. ⌜ r ≡ listCountAt empty most (now (s .entry)) at end ⌝ }
+{
+    let c = count(s, at, end);
+    let Tally::Items(n) = c else {
+        return c;
+    };
+    if !windows::enough(0, n, empty) {
+        return Tally::Refused(NO_ITEM, at);
+    }
+    if most < n {
+        return Tally::Refused(TOO_MANY_ITEMS, at);
+    }
+    Tally::Items(n)
 }
 
 // A section: where its bytes lie, or 19 where it is cut.

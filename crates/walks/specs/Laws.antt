@@ -25,6 +25,7 @@ use Rattle.contents.specs.Leaves.{Leaf, only}
 use Rattle.layouts.specs.Layout.{Item, leaf, list, Members, Member as Part, tagOf}
 use Rattle.layouts.specs.Scan.{thenSeen, thenStep, thenJudge, leafAt, scanMany, scan, recordScan}
 use Rattle.layouts.specs.Whole.{sequence}
+use Rattle.layouts.specs.Laws.Scan.{passed}
 use Rattle.primitives.specs.declared.Content.{Content}
 use Rattle.primitives.specs.declared.Primitive.{Primitive}
 use Rattle.primitives.specs.declared.Primitive.the-variants as primitive
@@ -38,7 +39,7 @@ use Rattle.structures.specs.Structure.{rowOf, layoutOf, itemOf}
 use Rattle.rows.specs.declared.Member.{Member}
 use Rattle.rows.specs.declared.Member.the-variants as member
 use Rattle.rows.specs.Row.{membersOf}
-use Rattle.rows.specs.Size.{from, one-more, none-left}
+use Rattle.rows.specs.Size.{from, one-more, none-left, over}
 use Rattle.layouts.specs.declared.Tally.{Tally}
 use Rattle.layouts.specs.declared.Tally.the-variants.{Items, Refused as Uncounted}
 use Rattle.layouts.specs.Marks.{noted, afterSeen, afterStep, afterTally, thenTally, tally, manyMarks, leafMarks, marks, marksAll, recordMarks}
@@ -47,10 +48,6 @@ use Rattle.entries.specs.Laws.{both, answers, tables}
 use Rattle.walks.specs.Walk.{itemWalk, rowWalk, memberWalk, listWalk, recordWalk}
 
 -- ---- an item
-
-passed : (x : Seen) → pastOf x ≡ thenSeen x (λ a z. Next z)
-passed (At a z) = refl
-passed (Bad n p) = refl
 
 -- a list whose items are counted ends where it ends
 abbrev counted : ℕ → Tally → Step
@@ -259,12 +256,6 @@ row-first ms i s p e t = refl
 pub row-whole : (x : Row) (ms : List Member) (i : ℕ) (s : List ℕ) (a e k p : ℕ) (t₀ t : List ℕ) (y : Step × List ℕ) → rowOf x ≡ membersOf ms
     → rowWalk (membersOf ms) i s a e t₀ ≡ rowWalk (from k ms) i s p e t → y ≡ rowWalk (from k ms) i s p e t → y ≡ rowWalk (rowOf x) i s a e t₀
 row-whole x ms i s a e k p t₀ t y h g f = f ∙ sym g ∙ ap (λ (r : Members). rowWalk r i s a e t₀) (sym h)
-
-pub chain : {A : Type 0} (x y z : A) → x ≡ y → y ≡ z → x ≡ z
-chain x y z e f = e ∙ f
-
-pub over : {A : Type 0} (x y z : A) → x ≡ y → z ≡ y → z ≡ x
-over x y z e f = f ∙ sym e
 
 -- ---- a list's items
 

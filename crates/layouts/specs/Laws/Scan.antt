@@ -14,9 +14,10 @@ use Rattle.terms.specs.Numbers.{left-over, bad-bits, no-item, too-many-items}
 use Rattle.terms.specs.Answer.{Res, good, fault, Got, got, pick, bind, need, enough, same, finish}
 use Rattle.terms.specs.Laws.Answer.{good-inj, test, is-true, is-false, by-bind, need-eq}
 use Rattle.heads.specs.Head.{forms, Cut, cutOff, head, outermost, tlv, octets}
-use Rattle.heads.specs.Scan.{seen, headAt, outermostAt, beginsAt, closeAt}
+use Rattle.heads.specs.Scan.{seen, pastOf, headAt, outermostAt, beginsAt, closeAt}
 use Rattle.heads.specs.Laws.Head.{head-back, outermost-back}
 use Rattle.heads.specs.declared.Seen.{Seen}
+use Rattle.heads.specs.declared.Seen.the-variants.{Item as At, Refused as Bad}
 use Rattle.heads.specs.declared.Step.{Step}
 use Rattle.heads.specs.declared.Step.the-variants.{Next, Refused}
 use Rattle.contents.specs.Content.{Check, fine, wrong, judge}
@@ -65,6 +66,11 @@ step r = out (λ x. x .after) r
 
 abbrev pub whole : {A : Type 0} → ℕ → Res A → Step
 whole e r = out (λ x. e) r
+
+-- where what follows an item starts
+pub passed : (x : Seen) → pastOf x ≡ thenSeen x (λ a z. Next z)
+passed (At a z) = refl
+passed (Bad n p) = refl
 
 pub seen-bind : {A : Type 0} (g : A → ℕ) (h : Res Cut) (k : ℕ → ℕ → Step) (K : Cut → Res A) → ((c : Cut) → h ≡ good c → k (c .start) (next c) ≡ out g (K c)) → thenSeen (seen h) k ≡ out g (bind h K)
 unfolding bind

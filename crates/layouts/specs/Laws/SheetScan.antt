@@ -27,7 +27,9 @@ use Rattle.layouts.specs.Reading.{next, readEither}
 use Rattle.layouts.specs.Sheet.{count-bytes, count, section, sheet, sheets, sheetPart, readCount, readSection, fillLeaf, times, criticalIn, fillFlag, fillOption, fillList, fill, fills, fillPart}
 use Rattle.layouts.specs.Whole.{acceptSheet}
 use Rattle.layouts.specs.Scan.{thenSeen, thenJudge, judgedAt}
-use Rattle.layouts.specs.SheetScan.{counted, countAt, thenCount, sectionAt, valueAt, leafSectionAt, flagSectionAt, timesScan, sheetScan, sheetScans, sheetScanPart, wholeSheetScan}
+use Rattle.layouts.specs.SheetScan.{counted, countAt, thenCount, withinOf, listCountAt, sectionAt, valueAt, leafSectionAt, flagSectionAt, timesScan, sheetScan, sheetScans, sheetScanPart, wholeSheetScan}
+use Rattle.layouts.specs.declared.Tally.{Tally}
+use Rattle.layouts.specs.declared.Tally.the-variants.{Items, Refused as Uncounted}
 use Rattle.layouts.specs.Laws.Sheet.{count-back, length-count, length-section, section-back, unfilled, unfilleds, unfilledPart}
 use Rattle.layouts.specs.Laws.Scan.{rest-slice, front-slice, onward, by-window, out, step, whole, seen-bind, out-bind, out-map, out-need, out-pick, choose-read}
 
@@ -55,6 +57,17 @@ judged-bind : {A B : Type 0} (g : B → ℕ) (x : Check) (p a b z : ℕ) (k : �
 unfolding judgedAt judge bind
 judged-bind g fine p a b z k y K e h = h
 judged-bind g (wrong n x) p a b z k y K e h = let q : placeOf x p b ≡ placeOf x p a = cc in rw q
+
+-- a list's count within its bounds, then what follows
+within : (c : Tally) (k : Bool) (n p : ℕ) (f : ℕ → Step) → thenCount (withinOf k n p c) f ≡ (thenCount c λ c. pick (k || leb 1 c) (pick (leb c n) (f c) (Refused too-many-items p)) (Refused no-item p))
+unfolding pick
+within (Items c) k n p f = go (k || leb 1 c) (leb c n)
+  where
+    go : (x y : Bool) → thenCount (pick x (pick y (Items c) (Uncounted too-many-items p)) (Uncounted no-item p)) f ≡ pick x (pick y (f c) (Refused too-many-items p)) (Refused no-item p)
+    go true true = refl
+    go true false = refl
+    go false y = refl
+within (Uncounted m q) k n p f = refl
 
 module _ (s : List ℕ) where
   -- ---- counts and sections
@@ -158,13 +171,14 @@ module _ (s : List ℕ) where
   -- ---- every layout
 
   mutual
-    unfolding sheetScan fill fillOption fillList readEither
+    unfolding sheetScan listCountAt fill fillOption fillList readEither
 
     pub sheet-fill : (i : Item) (p e : ℕ) → sheetScan i s p e ≡ step (fill i (slice p e s) p)
     sheet-fill (leaf l) p e = leaf-filled l p e
     sheet-fill (node t r) p e = sheets-fill r p e
     sheet-fill (list t k n f i) p e =
-        count-bind (λ x. x .after) p e _ _ λ c.
+        within (countAt s p e) k n p (λ c. timesScan (λ q. sheetScan i s q e) c (p + count-bytes))
+        ∙ count-bind (λ x. x .after) p e _ _ λ c.
         out-need (λ x. x .after) (k || leb 1 c) no-item p _ _
         (out-need (λ x. x .after) (leb c n) too-many-items p _ _
         (times-agree (λ q. sheetScan i s q e) (λ x q. fill i x q) e (λ q. sheet-fill i q e) (λ q. item-rest i q e) c (p + count-bytes)))

@@ -4,9 +4,9 @@ use lib.ListN.{length}
 use borrow.Author.Needs.{needs}
 use Rattle.structures.specs.Structure.{rowOf, layoutOf}
 use Rattle.rows.specs.Row.{row-width, membersOf}
-use Rattle.rows.specs.Size.{size, sizes, sizeOf, from, smaller, row-fewer, size-first}
+use Rattle.rows.specs.Size.{size, sizes, sizeOf, from, smaller, row-fewer, size-first, chain}
 use Rattle.walks.specs.Walk.{rowWalk, listWalk}
-use Rattle.walks.specs.Laws.{item-steps, list-steps, member-steps, row-steps, many-on, row-first, row-next, chain}
+use Rattle.walks.specs.Laws.{item-steps, list-steps, member-steps, row-steps, many-on, row-first, row-next}
 use Prim.Native.Nat.{ℕ, suc, _-_, _<_, _≤_}
 use borrow.Fn.Kinds.{In}
 use borrow.Fn.PlainCycle.{Measures, is, falls, and}
