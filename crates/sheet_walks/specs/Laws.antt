@@ -23,7 +23,7 @@ use Rattle.items.specs.declared.Tag.{Tag}
 use Rattle.contents.specs.Leaves.{Leaf}
 use Rattle.layouts.specs.Layout.{Item, Members}
 use Rattle.layouts.specs.Whole.{acceptSheet}
-use Rattle.layouts.specs.Scan.{thenSeen, thenStep}
+use Rattle.layouts.specs.Scan.{thenStep}
 use Rattle.layouts.specs.Sheet.{count-bytes}
 use Rattle.layouts.specs.SheetScan.{countAt, withinOf, listCountAt, leafSectionAt, flagSectionAt, timesScan, sheetScan, sheetScans, wholeSheetScan}
 use Rattle.layouts.specs.declared.Tally.{Tally}

@@ -1,5 +1,5 @@
 -- `check_record::main`: what was filled is a part of the input.
-use Rattle.check_record.specs.Laws.{counted-within, counted-taken}
+use Rattle.streams.specs.Laws.{counted-within, counted-taken}
 use borrow.Author.Needs.{needs}
 use Rattle.check_record.proofs.main.Statement.{statement}
 use Rattle.check_record.proofs.main.Tie as tie

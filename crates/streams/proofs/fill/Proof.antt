@@ -1,11 +1,11 @@
--- `check_record::fill`: each read stays inside the buffer and leaves less of it.
+-- `streams::fill`: each read stays inside the buffer and leaves less of it.
 use mathlib.Core.Path.{_≡_}
 use Prim.Native.Nat.{_-_, _≤_}
 use lib.ListN.{length}
 use borrow.Author.Needs.{needs}
-use Rattle.check_record.specs.Laws.{fits-more, inside, less, filled}
-use Rattle.check_record.proofs.fill.Statement.{statement}
-use Rattle.check_record.proofs.fill.Tie as tie
+use Rattle.streams.specs.Laws.{fits-more, inside, less, filled}
+use Rattle.streams.proofs.fill.Statement.{statement}
+use Rattle.streams.proofs.fill.Tie as tie
 
 abbrev Inv-loop : tie.InvT-loop
 Inv-loop buf₀ n₀ buf n = (n ≤ length buf) × (length buf ≡ length buf₀)

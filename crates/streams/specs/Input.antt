@@ -2,10 +2,10 @@
 use Prim.Native.Nat.{ℕ, _+_, _≤_, _<_}
 use mathlib.Core.List.{List}
 use Rattle.io.specs.Counts.{Counts}
-use Rattle.check_record.specs.declared.Read.{Read}
-use Rattle.check_record.specs.declared.Read.the-variants.{More, End, Failed as Stopped}
-use Rattle.check_record.specs.declared.Input.{Input}
-use Rattle.check_record.specs.declared.Input.the-variants.{Bytes, Failed}
+use Rattle.streams.specs.declared.Read.{Read}
+use Rattle.streams.specs.declared.Read.the-variants.{More, End, Failed as Stopped}
+use Rattle.streams.specs.declared.Input.{Input}
+use Rattle.streams.specs.declared.Input.the-variants.{Bytes, Failed}
 
 -- one read moves at least a byte and no more than there is room for
 abbrev pub Reads : Read → ℕ → ℕ → Type 0

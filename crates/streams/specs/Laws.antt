@@ -7,12 +7,12 @@ use lib.ListN.{length, take}
 use lib.Seq.{length-take-le}
 use mir.Syntax.{w64}
 use mir.Val.{Fits}
-use Rattle.check_record.specs.Input.{Reads, Filled}
-use Rattle.check_record.specs.declared.Read.{Read}
-use Rattle.check_record.specs.declared.Read.the-variants.{More}
+use Rattle.streams.specs.Input.{Reads, Filled}
+use Rattle.streams.specs.declared.Read.{Read}
+use Rattle.streams.specs.declared.Read.the-variants.{More}
 use Rattle.io.specs.Counts.{Counts}
-use Rattle.check_record.specs.declared.Input.{Input}
-use Rattle.check_record.specs.declared.Input.the-variants.{Bytes}
+use Rattle.streams.specs.declared.Input.{Input}
+use Rattle.streams.specs.declared.Input.the-variants.{Bytes}
 
 moved : (x : Read) (k n size : ℕ) → x ≡ More k → Reads x n size → (0 < k) × (n + k ≤ size)
 moved x k n size i r = subst (λ (y : Read). Reads y n size) i r
