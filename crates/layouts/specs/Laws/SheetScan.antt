@@ -36,7 +36,7 @@ use Rattle.layouts.specs.Laws.Scan.{rest-slice, front-slice, onward, by-
 -- ---- an integer's value in its section
 
 -- what is needed of some bytes is the last of them
-shrink-last : (x : List ℕ) → drop (length x - length (shrink x)) x ≡ shrink x
+pub shrink-last : (x : List ℕ) → drop (length x - length (shrink x)) x ≡ shrink x
 shrink-last x =
     let n : ℕ = length x - length (shrink x) in
     ap (drop n) (sym (shrink-back x)) ∙ drop-at (replicate n (signOf x)) (shrink x) n (length-replicate n (signOf x))

@@ -1,0 +1,5 @@
+// The forms in which values stand: a record or a sheet.
+pub enum Side {
+    Record,
+    Sheet,
+}
