@@ -86,7 +86,7 @@ pub fn section(s: &[u8], at: usize, end: usize) -> Seen
 }
 
 // The value in a section: of an integer those of its eight bytes that are needed, or 19 where it has not eight.
-fn value(s: &[u8], p: Primitive, at: usize, a: usize, z: usize) -> Seen
+pub fn value(s: &[u8], p: Primitive, at: usize, a: usize, z: usize) -> Seen
     ensures { λ r. ⌜ r ≡ valueAt (leafOf p .holds) (now (s .entry)) at a z ⌝ }
 {
     if !primitives::is_number(p) {
