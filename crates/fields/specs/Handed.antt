@@ -11,7 +11,7 @@ use Rattle.layouts.specs.Places.{slot}
 use Rattle.records.specs.declared.Part.{Part}
 use Rattle.records.specs.declared.Part.the-variants.{There, Absent, Refused}
 
--- what is sought in a record
+-- what a plain call answers of what is sought in a record
 abbrev pub partOf : Res (Option Entry) → Part
 partOf (good (some x)) = There (x .place) (length (x .bytes))
 partOf (good none) = Absent

@@ -50,7 +50,7 @@ told-part (good none) = refl
 told-part (fault n p) = refl
 
 -- an answer that tells so is no other
-pub told-is : (e : Res (Option Entry)) (y : Part) → toldPart y ≡ tell toldPlace e → y ≡ partOf e
+told-is : (e : Res (Option Entry)) (y : Part) → toldPart y ≡ tell toldPlace e → y ≡ partOf e
 told-is (good (some x)) (There a n) h = cc
 told-is (good (some x)) Absent h = never (cc)
 told-is (good (some x)) (Refused n p) h = never (cc)
@@ -97,7 +97,7 @@ module _ (r : Members) (q : Entry → Bool) (w : List ℕ) where
       go (good v) g h = let b = accept-back largest-record r w v g in (v, b .0, b .1, rw (good-inj h) at (first-sought q (fields r v)))
       go (fault n p) g h = never (cc)
 
-  pub sought-stands : (x : Entry) → seek r q w ≡ good (some x) → Stands w x
+  sought-stands : (x : Entry) → seek r q w ≡ good (some x) → Stands w x
   sought-stands x e = let (v, b, o, f) = sought-in x e in first-holds (Stands w) q (fields r v) x (rw (← b) at (fields-stand r v)) f
 
   sought-within : (x : Entry) → seek r q w ≡ good (some x) → x .place + length (x .bytes) ≤ length w
@@ -145,6 +145,17 @@ numbers-part f d o h = rw (ap (λ (x : List ℕ). getD x 0 0) h, ap (λ (x : Lis
     go : (o : Option Entry) → pick (eqb (getD (numbersOf o) 0 0) 0) Absent (There (getD (numbersOf o) 1 0) (getD (numbersOf o) 2 0)) ≡ partOf (good o)
     go none = refl
     go (some x) = refl
+
+-- the part that a table of places leads to is the one that is handed out
+pub table-handed : (s z : RefT (List ℕ)) (r : Members) (f : Field) (k : ℕ) (d : List ℕ) → Placed k (fieldsIn r (s .now)) d → PartOf s z (within (length (s .now)) (spanOf (partUnder f d)))
+    → PartOf s z (handedOut (seek r (isField f k) (s .now)))
+unfolding seek bind first
+table-handed s z r f k d p h =
+    subst (PartOf s z) (ap (within (length (s .now))) (go (readRecord r (s .now)) (numbers-part f d (first (isField f k) (fieldsIn r (s .now))) (p .1 f))) ∙ span-handed r (isField f k) (s .now) (seek r (isField f k) (s .now)) refl) h
+  where
+    go : (x : Res (Values r)) → partUnder f d ≡ partOf (good (first (isField f k) (fieldsOf r x))) → spanOf (partUnder f d) ≡ spanOf (partOf (bind x λ v. good (first (isField f k) (fields r v))))
+    go (good v) e = ap spanOf e
+    go (fault n q) e = ap spanOf e
 
 -- what is sought in a record that was read
 module _ (r : Members) (w : List ℕ) (m : Members) (g : m ≡ r) (o : Outcome) (t : toldOutcome o ≡ toldRecord largest-record m w) where

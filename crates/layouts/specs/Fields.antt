@@ -82,7 +82,7 @@ fields r v = runFields r 0 v (before (length (encodes r v)))
 
 -- the field's bytes stand at its place in a record
 abbrev pub Stands : List ℕ → Entry → Type 0
-Stands w x = (before : List ℕ) × (after : List ℕ) × (w ≡ before ++ (x .bytes ++ after)) × (length before ≡ x .place)
+Stands w x = (earlier : List ℕ) × (later : List ℕ) × (w ≡ earlier ++ (x .bytes ++ later)) × (length earlier ≡ x .place)
 
 -- ---- asking
 

@@ -1,5 +1,5 @@
 -- The entry of a certificate list that equals given bytes, by positions. Assumes nothing.
--- Nobody has to believe this page: `Laws` proves that it is the entry that `Handing.matchIn` seeks.
+-- Nobody has to believe this page: `Laws.Match.match-is` proves that of an accepted record's table it is the first equal entry.
 use Prim.Native.Nat.{ℕ, suc, zero, _-_}
 use mathlib.Core.Bool.{Bool, true, false}
 use mathlib.Core.List.{List}

@@ -67,7 +67,7 @@ fn is_kind_1(s: &[u8], places: &[usize]) -> bool
     windows::is_same(fields::cut_under(s, places, Field::ListKind), b"\x01")
 }
 
-// The entry that is the given bytes in the list that a table of places has.
+// Where the first entry lies that is the given bytes, in the list that a table of places has.
 pub fn find_under(s: &[u8], places: &[usize], given: &[u8]) -> Part
     ensures { λ r. ⌜ r ≡ matchUnder (now (given .entry)) (now (s .entry)) (now (places .entry)) ⌝ }
 {
@@ -85,7 +85,7 @@ pub fn find_under(s: &[u8], places: &[usize], given: &[u8]) -> Part
     }
 }
 
-// Where the entry lies that is the given bytes, or why there is none.
+// Where the first entry lies that is the given bytes, or why there is none.
 pub fn find(s: &[u8], x: Record, given: &[u8]) -> Part
     ensures { λ r. ⌜ toldPart r ≡ matchAnswer (layoutOf x) (now (given .entry)) (now (s .entry)) ⌝ }
 {
@@ -98,7 +98,7 @@ pub fn find(s: &[u8], x: Record, given: &[u8]) -> Part
     }
 }
 
-// The entry that is the given bytes, as a part of the record; where there is none, no bytes, at the record's start.
+// The first entry that is the given bytes, as a part of the record; where there is none, no bytes, at the record's start.
 pub fn part<'a, 'b>(record: &'a [u8], x: Record, given: &'b [u8]) -> &'a [u8]
     ensures { λ r. ⌜ PartOf («record» .entry) r (handedOut (matchIn (layoutOf x) (now (given .entry)) (now («record» .entry)))) ⌝ }
 {

@@ -1,4 +1,4 @@
--- The contract of a reader, a writer or a judge says what its answer tells in the paper's terms. These are the proofs that this admits one
+-- The contract of a reader, an accessor, a writer or a judge says what its answer tells in the paper's terms. These are the proofs that this admits one
 -- answer only: two answers that tell the same are the same. Assumes nothing.
 use mathlib.Core.Path.{_≡_, refl, sym, ap, _∙_}
 use mathlib.Core.Bool.{true, false}

@@ -31,7 +31,7 @@ use Rattle.layouts.specs.Laws.Whole.{Wrote, Kept}
 use Rattle.layouts.specs.Laws.Whole as Whole
 use Rattle.layouts.specs.Laws.Fields.{None, First, fields-stand, stands-cut, first-sought, first-holds}
 use Rattle.records.specs.Record.{sealInformation, seal, signedPart, signature}
-use Rattle.records.specs.Part.{PartOf}
+use Rattle.records.specs.Part.{PartOf, Lies}
 use Rattle.records.specs.Handing.{readRecord, recordAnswer, fieldsIn, seek, handedOut, fillAnswer, fillAfter, writeAnswer, writeAfter, isAmong, toldPlace, partNames, fieldAnswer, isListed, matchAnswer, integerNames, valueAnswer, isOwner, toldCritical, criticalAnswer, listNames, countAnswer, signedBytes, informationOf, signedPartOf, sealOf}
 use Rattle.records.specs.Laws.Record as Record
 use Rattle.records.specs.Laws.Handing.{Tells}
@@ -132,16 +132,10 @@ module _ (r : Members) (k : Clear r) where
     abbrev HandedOut : (Entry → Bool) → Type 0
     HandedOut p = PartOf s z (handedOut (seek r p (s .now)))
 
-    abbrev Own : Entry → Type 0
-    Own x = (z .now ≡ x .bytes) × (z .ptr ≡ (s .ptr .0, s .ptr .1 + x .place))
-
-    abbrev Nothing : Type 0
-    Nothing = (z .now ≡ []) × (z .ptr ≡ s .ptr)
-
-    pub part-is-its-own-bytes : (v : Values r) → readRecord r (s .now) ≡ good v → (p : Entry → Bool) → HandedOut p → ((x : Entry) × First p (fields r v) x × Own x) ⊎ (None p (fields r v) × Nothing)
+    pub part-is-its-own-bytes : (v : Values r) → readRecord r (s .now) ≡ good v → (p : Entry → Bool) → HandedOut p → ((x : Entry) × First p (fields r v) x × Lies s z (x .bytes) (x .place)) ⊎ (None p (fields r v) × Lies s z [] 0)
     part-is-its-own-bytes v e p h = Handing.handed-first r s z p h v e (fields-stand-there (s .now) v e)
 
-    pub refused-hands-out-nothing : (n q : ℕ) → readRecord r (s .now) ≡ fault n q → (p : Entry → Bool) → HandedOut p → Nothing
+    pub refused-hands-out-nothing : (n q : ℕ) → readRecord r (s .now) ≡ fault n q → (p : Entry → Bool) → HandedOut p → Lies s z [] 0
     refused-hands-out-nothing n q e p h = Handing.handed-refused r s z p h n q e
 
   -- what a reader's table of places tells stands there too: its second and third number are the field's start and length

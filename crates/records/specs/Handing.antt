@@ -86,11 +86,12 @@ handedOut (fault n p) = (0, 0)
 abbrev pub toldPlace : Entry → Told
 toldPlace x = told-two done (x .place) (length (x .bytes))
 
--- a field, by one of some names and its index
+-- a name is one of some
 abbrev pub isOneOf : List Field → Field → Bool
 isOneOf [] f = false
 isOneOf (x ∷ xs) f = sameName x f || isOneOf xs f
 
+-- a field, by one of some names and its index
 abbrev pub isAmong : List Field → Field → ℕ → Entry → Bool
 isAmong names f k x = isOneOf names f && isField f k x
 
@@ -125,10 +126,11 @@ integerNames = SealType ∷ ListKind ∷ Width ∷ Height ∷ []
 abbrev pub valueAnswer : Members → Field → List ℕ → Told
 valueAnswer r f w = tell (λ x. gives done (value (x .bytes) ∷ [])) (seek r (isAmong integerNames f 0) w)
 
--- the custom item that a critical belongs to
+-- the names of critical
 abbrev pub criticalNames : List Field
 criticalNames = SealCustomCritical ∷ SignedCustomCritical ∷ []
 
+-- the custom item that a critical belongs to
 abbrev pub ownerOf : Field → Field
 ownerOf f = pick (sameName f SealCustomCritical) SealCustomItem SignedCustomItem
 

@@ -9,3 +9,7 @@ use denote.Ref.{RefT}
 pub record PartOf (s r : RefT (List ℕ)) (p : ℕ × ℕ) : Type 0 where
   pub lies : r .ptr ≡ (s .ptr .0, s .ptr .1 + p .0)
   pub holds : r .now ≡ take (p .1) (drop (p .0) (s .now))
+
+-- `r` has just these bytes, and lies in `s` at this offset
+abbrev pub Lies : RefT (List ℕ) → RefT (List ℕ) → List ℕ → ℕ → Type 0
+Lies s r x a = (r .now ≡ x) × (r .ptr ≡ (s .ptr .0, s .ptr .1 + a))

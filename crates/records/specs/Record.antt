@@ -39,12 +39,15 @@ digest = field ListedType (printableString may-be-empty) ▸ field ListedDigest 
 abbrev pub digests : Item
 digests = list sequence never-empty most-items ListedEntry (node sequence digest)
 
+-- "list kind, INTEGER 1 or 2; certificate list": "The kind already read decides."
+abbrev pub kindAndList : Member
+kindAndList = choose ListKind (integer isKind) saysKind1 CertificateList certificates digests
+
 -- "Property, SEQUENCE: type, INTEGER; name, UTF8String; list kind, INTEGER 1 or 2; certificate list; created, start and end, GeneralizedTime."
--- "The kind already read decides."
 abbrev pub property : Members
 property =
     field SealType (integer any) ▸ field SealName (utf8String may-be-empty)
-    ▸ choose ListKind (integer isKind) saysKind1 CertificateList certificates digests
+    ▸ kindAndList
     ▸ field Created generalizedTime ▸ field Start generalizedTime ▸ field End generalizedTime ▸ end
 
 -- "Picture, SEQUENCE: type, IA5String; data, OCTET STRING; width and height in mm, INTEGER 1 to 65,535 (a house bound)."

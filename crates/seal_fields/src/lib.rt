@@ -15,6 +15,7 @@ pub fn signed_bytes(s: &[u8], x: Record) -> &[u8]
     fields::part(s, x, Field::SealInformation, 0)
 }
 
+// Where what the maker signed lies, or why there is none.
 pub fn signed_bytes_place(s: &[u8], x: Record) -> Part
     ensures { λ r. ⌜ toldPart r ≡ fieldAnswer (layoutOf x) SealInformation 0 (now (s .entry)) ⌝ }
 {
@@ -28,6 +29,7 @@ pub fn vendor(s: &[u8], x: Record) -> &[u8]
     fields::part(s, x, Field::Vendor, 0)
 }
 
+// Where the vendor lies, or why there is none.
 pub fn vendor_place(s: &[u8], x: Record) -> Part
     ensures { λ r. ⌜ toldPart r ≡ fieldAnswer (layoutOf x) Vendor 0 (now (s .entry)) ⌝ }
 {
@@ -41,6 +43,7 @@ pub fn id(s: &[u8], x: Record) -> &[u8]
     fields::part(s, x, Field::SealId, 0)
 }
 
+// Where the seal id lies, or why there is none.
 pub fn id_place(s: &[u8], x: Record) -> Part
     ensures { λ r. ⌜ toldPart r ≡ fieldAnswer (layoutOf x) SealId 0 (now (s .entry)) ⌝ }
 {
@@ -54,6 +57,7 @@ pub fn name(s: &[u8], x: Record) -> &[u8]
     fields::part(s, x, Field::SealName, 0)
 }
 
+// Where the seal's name lies, or why there is none.
 pub fn name_place(s: &[u8], x: Record) -> Part
     ensures { λ r. ⌜ toldPart r ≡ fieldAnswer (layoutOf x) SealName 0 (now (s .entry)) ⌝ }
 {
@@ -67,6 +71,7 @@ pub fn certificate(s: &[u8], x: Record, index: usize) -> &[u8]
     fields::part(s, x, Field::ListedCertificate, index)
 }
 
+// Where a certificate of the list lies, or why there is none.
 pub fn certificate_place(s: &[u8], x: Record, index: usize) -> Part
     ensures { λ r. ⌜ toldPart r ≡ fieldAnswer (layoutOf x) ListedCertificate index (now (s .entry)) ⌝ }
 {
@@ -80,6 +85,7 @@ pub fn digest_type(s: &[u8], x: Record, index: usize) -> &[u8]
     fields::part(s, x, Field::ListedType, index)
 }
 
+// Where the PrintableString of a listed digest lies, or why there is none.
 pub fn digest_type_place(s: &[u8], x: Record, index: usize) -> Part
     ensures { λ r. ⌜ toldPart r ≡ fieldAnswer (layoutOf x) ListedType index (now (s .entry)) ⌝ }
 {
@@ -93,6 +99,7 @@ pub fn digest(s: &[u8], x: Record, index: usize) -> &[u8]
     fields::part(s, x, Field::ListedDigest, index)
 }
 
+// Where a listed digest lies, or why there is none.
 pub fn digest_place(s: &[u8], x: Record, index: usize) -> Part
     ensures { λ r. ⌜ toldPart r ≡ fieldAnswer (layoutOf x) ListedDigest index (now (s .entry)) ⌝ }
 {
@@ -106,6 +113,7 @@ pub fn created(s: &[u8], x: Record) -> &[u8]
     fields::part(s, x, Field::Created, 0)
 }
 
+// Where the time of its making lies, or why there is none.
 pub fn created_place(s: &[u8], x: Record) -> Part
     ensures { λ r. ⌜ toldPart r ≡ fieldAnswer (layoutOf x) Created 0 (now (s .entry)) ⌝ }
 {
@@ -119,6 +127,7 @@ pub fn start(s: &[u8], x: Record) -> &[u8]
     fields::part(s, x, Field::Start, 0)
 }
 
+// Where the start of the seal's period lies, or why there is none.
 pub fn start_place(s: &[u8], x: Record) -> Part
     ensures { λ r. ⌜ toldPart r ≡ fieldAnswer (layoutOf x) Start 0 (now (s .entry)) ⌝ }
 {
@@ -132,6 +141,7 @@ pub fn end(s: &[u8], x: Record) -> &[u8]
     fields::part(s, x, Field::End, 0)
 }
 
+// Where the end of the seal's period lies, or why there is none.
 pub fn end_place(s: &[u8], x: Record) -> Part
     ensures { λ r. ⌜ toldPart r ≡ fieldAnswer (layoutOf x) End 0 (now (s .entry)) ⌝ }
 {
@@ -145,6 +155,7 @@ pub fn picture_type(s: &[u8], x: Record) -> &[u8]
     fields::part(s, x, Field::PictureType, 0)
 }
 
+// Where the picture's type lies, or why there is none.
 pub fn picture_type_place(s: &[u8], x: Record) -> Part
     ensures { λ r. ⌜ toldPart r ≡ fieldAnswer (layoutOf x) PictureType 0 (now (s .entry)) ⌝ }
 {
@@ -158,6 +169,7 @@ pub fn picture_data(s: &[u8], x: Record) -> &[u8]
     fields::part(s, x, Field::PictureData, 0)
 }
 
+// Where the picture's data lies, or why there is none.
 pub fn picture_data_place(s: &[u8], x: Record) -> Part
     ensures { λ r. ⌜ toldPart r ≡ fieldAnswer (layoutOf x) PictureData 0 (now (s .entry)) ⌝ }
 {
@@ -171,6 +183,7 @@ pub fn custom_id(s: &[u8], x: Record, index: usize) -> &[u8]
     fields::part(s, x, Field::SealCustomId, index)
 }
 
+// Where the identifier of a custom item lies, or why there is none.
 pub fn custom_id_place(s: &[u8], x: Record, index: usize) -> Part
     ensures { λ r. ⌜ toldPart r ≡ fieldAnswer (layoutOf x) SealCustomId index (now (s .entry)) ⌝ }
 {
@@ -184,6 +197,7 @@ pub fn custom_value(s: &[u8], x: Record, index: usize) -> &[u8]
     fields::part(s, x, Field::SealCustomValue, index)
 }
 
+// Where the value of a custom item lies, or why there is none.
 pub fn custom_value_place(s: &[u8], x: Record, index: usize) -> Part
     ensures { λ r. ⌜ toldPart r ≡ fieldAnswer (layoutOf x) SealCustomValue index (now (s .entry)) ⌝ }
 {
@@ -197,6 +211,7 @@ pub fn maker(s: &[u8], x: Record) -> &[u8]
     fields::part(s, x, Field::MakerCertificate, 0)
 }
 
+// Where the maker's certificate lies, or why there is none.
 pub fn maker_place(s: &[u8], x: Record) -> Part
     ensures { λ r. ⌜ toldPart r ≡ fieldAnswer (layoutOf x) MakerCertificate 0 (now (s .entry)) ⌝ }
 {
@@ -210,6 +225,7 @@ pub fn algorithm(s: &[u8], x: Record) -> &[u8]
     fields::part(s, x, Field::SealAlgorithm, 0)
 }
 
+// Where the algorithm of the maker's signature lies, or why there is none.
 pub fn algorithm_place(s: &[u8], x: Record) -> Part
     ensures { λ r. ⌜ toldPart r ≡ fieldAnswer (layoutOf x) SealAlgorithm 0 (now (s .entry)) ⌝ }
 {
@@ -223,6 +239,7 @@ pub fn signed_value(s: &[u8], x: Record) -> &[u8]
     fields::part(s, x, Field::SealSignedValue, 0)
 }
 
+// Where the maker's signature lies, or why there is none.
 pub fn signed_value_place(s: &[u8], x: Record) -> Part
     ensures { λ r. ⌜ toldPart r ≡ fieldAnswer (layoutOf x) SealSignedValue 0 (now (s .entry)) ⌝ }
 {

@@ -16,6 +16,7 @@ pub fn signed_bytes(s: &[u8]) -> &[u8]
     fields::part(s, Record::Signature, Field::SignedPart, 0)
 }
 
+// Where what the signer signed lies, or why there is none.
 pub fn signed_bytes_place(s: &[u8]) -> Part
     ensures { λ r. ⌜ toldPart r ≡ fieldAnswer signature SignedPart 0 (now (s .entry)) ⌝ }
 {
@@ -29,6 +30,7 @@ pub fn signing_time(s: &[u8]) -> &[u8]
     fields::part(s, Record::Signature, Field::SigningTime, 0)
 }
 
+// Where the time of signing lies, or why there is none.
 pub fn signing_time_place(s: &[u8]) -> Part
     ensures { λ r. ⌜ toldPart r ≡ fieldAnswer signature SigningTime 0 (now (s .entry)) ⌝ }
 {
@@ -42,6 +44,7 @@ pub fn original_digest(s: &[u8]) -> &[u8]
     fields::part(s, Record::Signature, Field::OriginalDigest, 0)
 }
 
+// Where the digest of the original lies, or why there is none.
 pub fn original_digest_place(s: &[u8]) -> Part
     ensures { λ r. ⌜ toldPart r ≡ fieldAnswer signature OriginalDigest 0 (now (s .entry)) ⌝ }
 {
@@ -55,6 +58,7 @@ pub fn property_text(s: &[u8]) -> &[u8]
     fields::part(s, Record::Signature, Field::PropertyText, 0)
 }
 
+// Where the property text lies, or why there is none.
 pub fn property_text_place(s: &[u8]) -> Part
     ensures { λ r. ⌜ toldPart r ≡ fieldAnswer signature PropertyText 0 (now (s .entry)) ⌝ }
 {
@@ -68,6 +72,7 @@ pub fn custom_id(s: &[u8], index: usize) -> &[u8]
     fields::part(s, Record::Signature, Field::SignedCustomId, index)
 }
 
+// Where the identifier of a custom item lies, or why there is none.
 pub fn custom_id_place(s: &[u8], index: usize) -> Part
     ensures { λ r. ⌜ toldPart r ≡ fieldAnswer signature SignedCustomId index (now (s .entry)) ⌝ }
 {
@@ -81,6 +86,7 @@ pub fn custom_value(s: &[u8], index: usize) -> &[u8]
     fields::part(s, Record::Signature, Field::SignedCustomValue, index)
 }
 
+// Where the value of a custom item lies, or why there is none.
 pub fn custom_value_place(s: &[u8], index: usize) -> Part
     ensures { λ r. ⌜ toldPart r ≡ fieldAnswer signature SignedCustomValue index (now (s .entry)) ⌝ }
 {
@@ -94,6 +100,7 @@ pub fn signer(s: &[u8]) -> &[u8]
     fields::part(s, Record::Signature, Field::SignerCertificate, 0)
 }
 
+// Where the signer's certificate lies, or why there is none.
 pub fn signer_place(s: &[u8]) -> Part
     ensures { λ r. ⌜ toldPart r ≡ fieldAnswer signature SignerCertificate 0 (now (s .entry)) ⌝ }
 {
@@ -107,6 +114,7 @@ pub fn algorithm(s: &[u8]) -> &[u8]
     fields::part(s, Record::Signature, Field::SignatureAlgorithm, 0)
 }
 
+// Where the algorithm of the signature lies, or why there is none.
 pub fn algorithm_place(s: &[u8]) -> Part
     ensures { λ r. ⌜ toldPart r ≡ fieldAnswer signature SignatureAlgorithm 0 (now (s .entry)) ⌝ }
 {
@@ -120,6 +128,7 @@ pub fn value(s: &[u8]) -> &[u8]
     fields::part(s, Record::Signature, Field::SignatureValue, 0)
 }
 
+// Where the signature lies, or why there is none.
 pub fn value_place(s: &[u8]) -> Part
     ensures { λ r. ⌜ toldPart r ≡ fieldAnswer signature SignatureValue 0 (now (s .entry)) ⌝ }
 {
@@ -133,6 +142,7 @@ pub fn stamp(s: &[u8]) -> &[u8]
     fields::part(s, Record::Signature, Field::Stamp, 0)
 }
 
+// Where the stamp lies, or why there is none.
 pub fn stamp_place(s: &[u8]) -> Part
     ensures { λ r. ⌜ toldPart r ≡ fieldAnswer signature Stamp 0 (now (s .entry)) ⌝ }
 {

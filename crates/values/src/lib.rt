@@ -131,7 +131,7 @@ pub fn height(s: &[u8], x: Record) -> Number
 }
 
 // Whether a custom item of the seal is critical.
-pub fn is_seal_critical(s: &[u8], x: Record, index: usize) -> Critical
+pub fn seal_custom_critical(s: &[u8], x: Record, index: usize) -> Critical
     ensures { λ r. ⌜ toldIs r ≡ criticalAnswer (layoutOf x) SealCustomCritical index (now (s .entry)) ⌝ }
 {
     critical(
@@ -144,7 +144,7 @@ pub fn is_seal_critical(s: &[u8], x: Record, index: usize) -> Critical
 }
 
 // Whether a custom item of the signed part is critical.
-pub fn is_signed_critical(s: &[u8], index: usize) -> Critical
+pub fn signed_custom_critical(s: &[u8], index: usize) -> Critical
     ensures { λ r. ⌜ toldIs r ≡ criticalAnswer signature SignedCustomCritical index (now (s .entry)) ⌝ }
 {
     critical(
@@ -157,21 +157,21 @@ pub fn is_signed_critical(s: &[u8], index: usize) -> Critical
 }
 
 // How many certificates or digests the list has.
-pub fn listed(s: &[u8], x: Record) -> Items
+pub fn listed_count(s: &[u8], x: Record) -> Items
     ensures { λ r. ⌜ toldItems r ≡ countAnswer (layoutOf x) CertificateList (now (s .entry)) ⌝ }
 {
     count(s, x, Field::CertificateList)
 }
 
 // How many custom items the seal has.
-pub fn seal_custom(s: &[u8], x: Record) -> Items
+pub fn seal_custom_count(s: &[u8], x: Record) -> Items
     ensures { λ r. ⌜ toldItems r ≡ countAnswer (layoutOf x) SealCustomData (now (s .entry)) ⌝ }
 {
     count(s, x, Field::SealCustomData)
 }
 
 // How many custom items the signed part has.
-pub fn signed_custom(s: &[u8]) -> Items
+pub fn signed_custom_count(s: &[u8]) -> Items
     ensures { λ r. ⌜ toldItems r ≡ countAnswer signature SignedCustomData (now (s .entry)) ⌝ }
 {
     count(s, Record::Signature, Field::SignedCustomData)

@@ -25,7 +25,7 @@ module _ {A : Type 0} (q : A → Bool) where
   first-skip [] ys h = refl
   first-skip (x ∷ xs) ys h = pick-no (q x) _ _ (h .0) ∙ first-skip xs ys (h .1)
 
-  pub first-none : (xs : List A) → All (λ x. T (not (q x))) xs → first q xs ≡ none
+  first-none : (xs : List A) → All (λ x. T (not (q x))) xs → first q xs ≡ none
   unfolding first
   first-none [] h = refl
   first-none (x ∷ xs) h = pick-no (q x) _ _ (h .0) ∙ first-none xs (h .1)
@@ -46,10 +46,10 @@ module _ (named : Field → Bool) where
   other f = not (named f)
 
   -- no field of a run, or of a member, has one of the names
-  abbrev pub lacks : Members → Bool
+  abbrev lacks : Members → Bool
   lacks r = passesAll (λ f l. other f) other r
 
-  abbrev pub lacksPart : Member → Bool
+  abbrev lacksPart : Member → Bool
   lacksPart m = passesPart (λ f l. other f) other m
 
   passed-by : (q : Entry → Bool) → Asks q → (xs : List Entry) → All (λ x. T (other (x .name))) xs → All (λ x. T (not (q x))) xs

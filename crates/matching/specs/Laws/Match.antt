@@ -3,7 +3,7 @@ use mathlib.Core.Path.{_≡_, refl, sym, ap, ap₂, _∙_, subst}
 use mathlib.Core.Logic.{_⊎_, inl, inr}
 use Prim.Native.Nat.{ℕ, suc, zero, _+_, _-_, _≤_, _<_}
 use native.Mathlib.Omega.{arith}
-use mathlib.Core.Bool.{Bool, true, false, not, _||_}
+use mathlib.Core.Bool.{Bool, true, false, not}
 use mathlib.Core.Option.{Option, some}
 use mathlib.Core.List.{List, [], _∷_, _++_}
 use lib.ListN.{length, drop, length-append}
@@ -15,7 +15,7 @@ use Rattle.terms.specs.declared.Field.the-variants.{ListKind, CertificateList, 
 use Rattle.terms.specs.Names.{sameName}
 use Rattle.terms.specs.Numbers.{most-items, largest-record}
 use Rattle.terms.specs.Answer.{good, pick, same, never-empty}
-use Rattle.terms.specs.Laws.Answer.{and-l, is-true, is-false}
+use Rattle.terms.specs.Laws.Answer.{and-l, or-r, is-true, is-false}
 use Rattle.heads.specs.Head.{forms, tlv, before, cutOff, head}
 use Rattle.heads.specs.Laws.Head.{unspelled, head-tlv, length-tlv}
 use Rattle.heads.specs.Scan.{seen, headAt}
@@ -32,11 +32,11 @@ use Rattle.layouts.specs.Whole.{sequence, accept, toldOutcome}
 use Rattle.layouts.specs.Laws.Whole.{accept-back}
 use Rattle.layouts.specs.declared.Outcome.{Outcome}
 use Rattle.layouts.specs.declared.Outcome.the-variants.{Length, Refused as Unread}
-use Rattle.records.specs.Record.{digest, certificates, digests}
+use Rattle.records.specs.Record.{digest, certificates, digests, kindAndList}
 use Rattle.records.specs.declared.Record.{Record}
-use Rattle.records.specs.Handing.{layoutOf, toldRecord, fieldsOf, isOneOf, isListed, matchAnswer, toldPart}
+use Rattle.records.specs.Handing.{layoutOf, toldRecord, readRecord, fieldsOf, isOneOf, isListed, matchAnswer, toldPart}
 use Rattle.records.specs.Laws.Handing.{fields-in, one-of-alike, asked-name}
-use Rattle.records.specs.Laws.List.{listMember, ofList, list-in}
+use Rattle.records.specs.Laws.List.{listFields, ofList, list-in}
 use Rattle.records.specs.declared.Part.{Part}
 use Rattle.records.specs.declared.Part.the-variants.{There, Absent, Refused}
 use Rattle.fields.specs.Handed.{partOf, partUnder}
@@ -183,11 +183,7 @@ each-none q enc f h j (x ∷ xs) p = all-append (λ y. T (not (q y))) (f j x p) 
 
 -- what is asked for in it is of the list
 asks-field : (f : Field) → T (ofList f) → Asks ofList (isField f 0)
-asks-field f t x h = subst T (one-of-alike (ListKind ∷ CertificateList ∷ ListedCertificate ∷ ListedDigest ∷ []) f (x .name) (asked-name f 0 x h)) t
-
-or-r : (a b : Bool) → T b → T (a || b)
-or-r true b t = tt
-or-r false b t = t
+asks-field f t x h = subst T (one-of-alike listFields f (x .name) (asked-name f 0 x h)) t
 
 asks-listed : (g : List ℕ) → Asks ofList (isListed g)
 unfolding isListed
@@ -245,7 +241,7 @@ module _ (g w : List ℕ) (xs : List Entry) (d : List ℕ) (pl : Placed 0 xs d) 
 
   module _ (kv : List ℕ) (s : Value certificates ⊎ Value digests) (earlier later : List ℕ)
       (h : w ≡ earlier ++ ((encodeLeaf kind kv ++ either (λ v. encode certificates v) (λ v. encode digests v) s) ++ later))
-      (alike : (q : Entry → Bool) → Asks ofList q → first q xs ≡ first q (partFields listMember 0 (kv, s) (length earlier))) where
+      (alike : (q : Entry → Bool) → Asks ofList q → first q xs ≡ first q (partFields kindAndList 0 (kv, s) (length earlier))) where
     -- the kind
     kind-told : saysKind1 (bytesAt w (partUnder ListKind d)) ≡ saysKind1 kv
     unfolding partFields first isField pick
@@ -257,7 +253,7 @@ module _ (g w : List ℕ) (xs : List Entry) (d : List ℕ) (pl : Placed 0 xs d) 
 
   matched : (kv : List ℕ) (s : Value certificates ⊎ Value digests) → InEither (saysKind1 kv) (λ v. Ok certificates v) (λ v. Ok digests v) s → (earlier later : List ℕ)
       → w ≡ earlier ++ ((encodeLeaf kind kv ++ either (λ v. encode certificates v) (λ v. encode digests v) s) ++ later)
-      → ((q : Entry → Bool) → Asks ofList q → first q xs ≡ first q (partFields listMember 0 (kv, s) (length earlier)))
+      → ((q : Entry → Bool) → Asks ofList q → first q xs ≡ first q (partFields kindAndList 0 (kv, s) (length earlier)))
       → matchUnder g w d ≡ partOf (good (first (isListed g) xs))
   unfolding either partFields eitherFields first isField isListed pick
   matched kv (inl vs) o earlier later h alike =
@@ -273,19 +269,24 @@ module _ (g w : List ℕ) (xs : List Entry) (d : List ℕ) (pl : Placed 0 xs d) 
       (alike (isField CertificateList 0) (asks-field CertificateList tt) ∙ ap (λ (b : ℕ). first (isField CertificateList 0) (itemFields digests CertificateList 0 vs b)) (sym (k .2)))
       (alike (isListed g) (asks-listed g) ∙ ap (λ (b : ℕ). first (isListed g) (itemFields digests CertificateList 0 vs b)) (sym (k .2)))
 
-  held-matched : Holds ofList listMember w xs → matchUnder g w d ≡ partOf (good (first (isListed g) xs))
+  held-matched : Holds ofList kindAndList w xs → matchUnder g w d ≡ partOf (good (first (isListed g) xs))
   unfolding encodePart
   held-matched h = matched (h .value .0) (h .value .1) (h .ok .1) (h .earlier) (h .later) (h .written) (h .alike)
 
--- what the table of a record that was read leads to is what is sought in it
+-- what the table of an accepted record leads to is the first equal entry
+pub match-is : (x : Record) (w g : List ℕ) (v : Values (layoutOf x)) → readRecord (layoutOf x) w ≡ good v → (d : List ℕ) → Placed 0 (fields (layoutOf x) v) d
+    → matchUnder g w d ≡ partOf (good (first (isListed g) (fields (layoutOf x) v)))
+match-is x w g v a d p =
+    let (b, c, l) = accept-back largest-record (layoutOf x) w v a in
+    held-matched g w (fields (layoutOf x) v) d p (omega arith) (subst (λ (s : List ℕ). Holds ofList kindAndList s (fields (layoutOf x) v)) (sym b) (list-in x v c))
+
+-- and what is sought in a record that was read
 module _ (x : Record) (w g : List ℕ) (m : Members) (i : m ≡ layoutOf x) (o : Outcome) (t : toldOutcome o ≡ toldRecord largest-record m w) where
   pub match-read : (n : ℕ) (d : List ℕ) (y : Part) → o ≡ Length n → Placed 0 (fieldsOf m (accept largest-record m w)) d → y ≡ matchUnder g w d → toldPart y ≡ matchAnswer (layoutOf x) g w
   match-read n d y q p e =
       let (v, a) = was-read (layoutOf x) w m i o t n q in
-      let (b, c, l) = accept-back largest-record (layoutOf x) w v a in
-      let h = subst (λ (s : List ℕ). Holds ofList listMember s (fields (layoutOf x) v)) (sym b) (list-in x v c) in
       let f = fields-in (layoutOf x) w v a in
-      let z = held-matched g w (fields (layoutOf x) v) d (rw f at (placed-in (layoutOf x) w m i o t 0 d p)) (omega arith) h in
+      let z = match-is x w g v a d (rw f at (placed-in (layoutOf x) w m i o t 0 d p)) in
       rw (sought-read (layoutOf x) w m i o t n q (isListed g), f) (ap toldPart (e ∙ z) ∙ told-part (good (first (isListed g) (fields (layoutOf x) v))))
 
   pub match-refused-told : (n s : ℕ) → o ≡ Unread n s → toldPart (Refused n s) ≡ matchAnswer (layoutOf x) g w

@@ -1,8 +1,7 @@
 -- What is told of an accepted record's fields: of the first that is asked for, absent exactly where there is none. Assumes nothing.
-use mathlib.Core.Path.{_≡_, refl, sym, ap, _∙_}
+use mathlib.Core.Path.{_≡_, refl, sym, _∙_}
 use mathlib.Core.Logic.{_⊎_, inl, inr}
-use Prim.Native.Nat.{ℕ, _+_}
-use native.Mathlib.Omega.{arith}
+use Prim.Native.Nat.{ℕ}
 use mathlib.Core.Bool.{Bool, true, false, not, _||_}
 use mathlib.Core.Option.{Option, none, some}
 use mathlib.Core.List.{List, [], _∷_}
@@ -25,7 +24,7 @@ use Rattle.layouts.specs.Laws.Fields.{stands-cut, None, First, Sought, first-so
 use Rattle.layouts.specs.Laws.Each.{passes, passesAll, fields-pass}
 use Rattle.records.specs.declared.Record.{Record}
 use Rattle.records.specs.declared.Record.the-variants.{Seal, Signature}
-use Rattle.records.specs.Part.{PartOf}
+use Rattle.records.specs.Part.{PartOf, Lies}
 use Rattle.records.specs.Handing.{layoutOf, integerNames, readRecord, fieldsIn, seek, tell, handedOut, isOneOf, fieldAnswer, isListed, matchAnswer, valueAnswer, criticalAnswer, countAnswer}
 
 -- told of the first that passes, whose bytes stand at its place; absent where none passes
@@ -56,27 +55,20 @@ refused-told r w n p e f k given = (rw e, rw e, rw e, rw e, rw e)
 -- ---- a part that is handed out
 
 module _ (r : Members) (s z : RefT (List ℕ)) (q : Entry → Bool) (h : PartOf s z (handedOut (seek r q (s .now)))) where
-  -- it is the field's bytes at the field's place
-  abbrev pub Handed : Entry → Type 0
-  Handed x = (z .now ≡ x .bytes) × (z .ptr ≡ (s .ptr .0, s .ptr .1 + x .place))
-
-  -- or no bytes, at the record's start
-  abbrev pub Nothing : Type 0
-  Nothing = (z .now ≡ []) × (z .ptr ≡ s .ptr)
-
-  nothing : PartOf s z (0, 0) → Nothing
-  nothing k = (k .holds, k .lies ∙ ap (λ (n : ℕ). (s .ptr .0, n)) (omega arith))
-
-  pub handed-refused : (n p : ℕ) → readRecord r (s .now) ≡ fault n p → Nothing
+  -- of a refused record no bytes, at its start
+  pub handed-refused : (n p : ℕ) → readRecord r (s .now) ≡ fault n p → Lies s z [] 0
   unfolding seek bind
-  handed-refused n p e = nothing (rw e at h)
+  handed-refused n p e = let k = rw e at h in (k .holds, k .lies)
 
-  pub handed-first : (v : Values r) → readRecord r (s .now) ≡ good v → All (Stands (s .now)) (fields r v) → ((x : Entry) × First q (fields r v) x × Handed x) ⊎ (None q (fields r v) × Nothing)
+  -- else the first field that passes, and where none does no bytes, at the record's start
+  pub handed-first : (v : Values r) → readRecord r (s .now) ≡ good v → All (Stands (s .now)) (fields r v)
+      → ((x : Entry) × First q (fields r v) x × Lies s z (x .bytes) (x .place)) ⊎ (None q (fields r v) × Lies s z [] 0)
   unfolding seek bind
   handed-first v e st = go (first q (fields r v)) refl (first-sought q (fields r v)) (rw e at h)
     where
-      go : (o : Option Entry) → first q (fields r v) ≡ o → Sought q (fields r v) o → PartOf s z (handedOut (good (first q (fields r v)))) → ((x : Entry) × First q (fields r v) x × Handed x) ⊎ (None q (fields r v) × Nothing)
-      go none i n k = inr (n, nothing (rw i at k))
+      go : (o : Option Entry) → first q (fields r v) ≡ o → Sought q (fields r v) o → PartOf s z (handedOut (good (first q (fields r v))))
+          → ((x : Entry) × First q (fields r v) x × Lies s z (x .bytes) (x .place)) ⊎ (None q (fields r v) × Lies s z [] 0)
+      go none i n k = let k′ = rw i at k in inr (n, (k′ .holds, k′ .lies))
       go (some x) i f k = let k′ = rw i at k in inl (x, f, (k′ .holds ∙ stands-cut (s .now) x (first-holds (Stands (s .now)) q (fields r v) x st f), k′ .lies))
 
 -- ---- names
