@@ -1,0 +1,235 @@
+-- Filling a sheet and writing a record: what is sent is what the rules say. Assumes nothing.
+use mathlib.Core.Path.{_≡_, refl, sym, ap, _∙_}
+use Prim.Native.Nat.{ℕ, _+_, _*_, _≤_, _<_}
+use native.Mathlib.Omega.{arith}
+use native.Mathlib.Nat.{zero-add}
+use mathlib.Core.List.{List, [], _∷_, _++_}
+use lib.ListN.{length, drop}
+use lib.Seq.{slice, take-length}
+use lib.Dec.{T, leb, leb→le, nleb→lt}
+use borrow.Author.Tests.{le-leb, lt-leb}
+use Rattle.terms.specs.Numbers.{too-large, no-room, bad-sheet, left-over, largest-record}
+use Rattle.terms.specs.Answer.{Res, good, fault, Got, got, bind, need, finish, answered}
+use Rattle.terms.specs.Laws.Answer.{never, good-inj, by-bind, bind-eq, test}
+use Rattle.heads.specs.Head.{Cut, forms, head}
+use Rattle.heads.specs.Laws.Head.{outermost-back}
+use Rattle.heads.specs.declared.Step.{Step}
+use Rattle.heads.specs.declared.Step.the-variants.{Next, Refused}
+use Rattle.layouts.specs.Layout.{Item, node, Members, Values, encode}
+use Rattle.layouts.specs.Reading.{next, read, reads}
+use Rattle.layouts.specs.Sheet.{sheet, sheets, fill, fills}
+use Rattle.layouts.specs.Whole.{sequence, recordOf, recordAt, accept, acceptSheet, fit, fillSheet, writeRecord, stored, toldOutcome}
+use Rattle.layouts.specs.Laws.Reading.{clear, finish-back}
+use Rattle.layouts.specs.Laws.Scan.{whole}
+use Rattle.layouts.specs.Laws.Sheet.{short}
+use Rattle.layouts.specs.Laws.Whole.{accept-back}
+use Rattle.layouts.specs.declared.Outcome.{Outcome}
+use Rattle.layouts.specs.declared.Outcome.the-variants.{Length, Refused as Denied}
+use Rattle.records.specs.declared.Record.{Record}
+use Rattle.records.specs.declared.Record.the-variants.{Seal, Signature}
+use Rattle.records.specs.Handing.{layoutOf, toldRecord, fillAnswer, fillAfter, writeAnswer, writeAfter}
+use Rattle.records.specs.Laws.Record.{seal-clear, signature-clear}
+use Rattle.structures.specs.declared.Structure.the-variants as structure
+use Rattle.structures.specs.Structure.{layoutOf as itemOf}
+use Rattle.sides.specs.declared.Side.{Side}
+use Rattle.sides.specs.declared.Side.the-variants as side
+use Rattle.sides.specs.Move.{Moved, move}
+use Rattle.sides.specs.Laws.Move.{move-read, move-fill}
+use Rattle.stores.specs.Store.{cap, advance, put}
+use Rattle.stores.specs.Laws.Store.{advance-small, advance-full, put-start}
+use Rattle.pieces.specs.Piece.{wrote}
+use Rattle.sheets.specs.Send.{outcomeOf, sent, ends}
+
+-- ---- an item sent
+
+module _ (from to : Side) (i : Item) (s d : List ℕ) (most : ℕ) (m : most < cap) (q n : ℕ) (c c′ : List ℕ) (g : (q, n, c′) ≡ wrote (move from to i s 0 (length s)) c 0) where
+  out : List ℕ
+  out = move from to i s 0 (length s) .1
+
+  size-is : n ≡ advance 0 (length out)
+  unfolding out wrote
+  size-is = ap (λ (w : ℕ × ℕ × List ℕ). w .1) g
+
+  size-exact : n ≤ most → n ≡ length out
+  size-exact h =
+      let a = size-is in
+      test (leb (length out) cap)
+      (λ k. let b = advance-small 0 (length out) (leb→le (0 + length out) cap (rw zero-add k)) in omega arith)
+      (λ k. let b = advance-full 0 (length out) (omega arith) (let e = nleb→lt (length out) cap k in omega arith) in absurd (omega arith))
+
+  size-over : most < n → most < length out
+  size-over h =
+      let a = size-is in
+      test (leb (length out) cap)
+      (λ k. let b = advance-small 0 (length out) (leb→le (0 + length out) cap (rw zero-add k)) in omega arith)
+      (λ k. let e = nleb→lt (length out) cap k in omega arith)
+
+  pub send-large : most < n → (Denied too-large 0, d) ≡ ends (sent most (move from to i s 0 (length s) .1) (length d)) d
+  unfolding ends sent stored need out
+  send-large h = rw (lt-leb (length out) most (size-over h))
+
+  pub send-short : n ≤ most → length d < n → (Denied no-room n, d) ≡ ends (sent most (move from to i s 0 (length s) .1) (length d)) d
+  unfolding ends sent stored need out fit
+  send-short h k =
+      let e : n ≡ length out = size-exact h in
+      let a : length out ≤ most = omega arith in
+      let b : length d < length out = omega arith in
+      rw (le-leb (length out) most a, lt-leb (length out) (length d) b, e) refl
+
+  pub send-all : (q′ n′ : ℕ) (d′ : List ℕ) → n ≤ most → n ≤ length d → (q′, n′, d′) ≡ wrote (move from to i s 0 (length s)) d 0
+      → (Length n′, d′) ≡ ends (sent most (move from to i s 0 (length s) .1) (length d)) d
+  unfolding ends sent stored need out fit wrote
+  send-all q′ n′ d′ h k f =
+      let e : n ≡ length out = size-exact h in
+      let a : length out ≤ most = omega arith in
+      let b : length out ≤ length d = omega arith in
+      let u : n′ ≡ advance 0 (length out) = ap (λ (w : ℕ × ℕ × List ℕ). w .1) f in
+      let v : n′ ≡ length out = u ∙ sym size-is ∙ e in
+      let w : d′ ≡ out ++ drop (length out) d = ap (λ (w : ℕ × ℕ × List ℕ). w .2) f ∙ put-start d out (omega arith) b in
+      rw (le-leb (length out) most a, le-leb (length out) (length d) b, v, w) refl
+
+-- what the answer tells, and the destination
+told-ends : (z : Res (List ℕ)) → toldOutcome (outcomeOf z) ≡ answered (λ x. length x) z
+told-ends (good x) = refl
+told-ends (fault n p) = refl
+
+module _ (y : Outcome) (d′ d : List ℕ) (z : Res (List ℕ)) (h : (y, d′) ≡ ends z d) where
+  ends-told : toldOutcome y ≡ answered (λ x. length x) z
+  unfolding ends
+  ends-told = ap (λ (w : Outcome × List ℕ). toldOutcome (w .0)) h ∙ told-ends z
+
+  ends-stored : d′ ≡ stored z d
+  unfolding ends
+  ends-stored = ap (λ (w : Outcome × List ℕ). w .1) h
+
+-- ---- a record read, then sent
+
+node-read : (r : Members) (s : List ℕ) (c : Cut) (v : Values r) → head forms sequence s 0 ≡ good c → reads r (c .content) (c .start) ≡ good v → read (node sequence r) s 0 ≡ good (got v (c .rest) (next c))
+unfolding read bind
+node-read r s c v h g = rw (h, g)
+
+node-sheet : (r : Members) (v : Values r) → sheet (node sequence r) v ≡ sheets r v
+unfolding sheet
+node-sheet r v = refl
+
+node-short : (r : Members) → T (clear (node sequence r)) → (v : Values r) → length (recordOf r v) < 65536 → length (sheet (node sequence r) v) ≤ 8 * length (recordOf r v) + 0
+unfolding encode
+node-short r k v h = short (node sequence r) k v h
+
+both-clear : (x : Record) → T (clear (node sequence (layoutOf x)))
+both-clear Seal = seal-clear
+both-clear Signature = signature-clear
+
+-- the sheet of an accepted record
+sheet-sent : (r : Members) (s : List ℕ) → T (clear (node sequence r)) → (v : Values r) → accept largest-record r s ≡ good v → (room : ℕ)
+    → sent 4294967295 (move side.Record side.Sheet (node sequence r) s 0 (length s) .1) room ≡ fillSheet largest-record r s room
+unfolding accept recordAt fillSheet sent need
+sheet-sent r s k v h room =
+    by-bind _ _ _ h λ x e₁ e₂. by-bind _ _ _ e₁ λ c e₃ e₄. by-bind _ _ _ e₄ λ y e₅ e₆.
+    let w : slice 0 (length s) s ≡ s = take-length s in
+    let g : y ≡ v = ap (λ (a : Got (Values r)). a .value) (good-inj e₆) ∙ finish-back left-over x v e₂ .1 in
+    let z : read (node sequence r) (slice 0 (length s) s) 0 ≡ good (got y (c .rest) (next c)) = rw w (node-read r s c y (outermost-back largest-record sequence s 0 c e₃ .0) e₅) in
+    let m : move side.Record side.Sheet (node sequence r) s 0 (length s) .1 ≡ sheets r v =
+    ap (λ (q : Moved). q .1) (move-read s side.Sheet (node sequence r) 0 (length s) (omega arith) (omega arith) (got y (c .rest) (next c)) z) ∙ node-sheet r y ∙ ap (sheets r) g in
+    let a = accept-back largest-record r s v h in
+    let q : length (recordOf r v) ≤ 65535 = rw (← a .0) (a .2) in
+    let b : length (sheets r v) ≤ 8 * length (recordOf r v) + 0 = rw (← node-sheet r v) (node-short r k v (omega arith)) in
+    let f : length (sheets r v) ≤ 4294967295 = omega arith in
+    rw (m, le-leb (length (sheets r v)) 4294967295 f) (sym (bind-eq _ h))
+
+module _ (x : Record) (s d : List ℕ) (m : Members) (i : m ≡ layoutOf x) (o : Outcome) (t : toldOutcome o ≡ toldRecord largest-record m s) where
+  unread : (n p : ℕ) → o ≡ Denied n p → accept largest-record (layoutOf x) s ≡ fault n p
+  unread n p h = go (accept largest-record (layoutOf x) s) (rw (i, h) at t)
+    where
+      go : (a : Res (Values (layoutOf x))) → toldOutcome (Denied n p) ≡ answered (λ v. length s) a → a ≡ fault n p
+      go (good v) e = never (cc)
+      go (fault n′ p′) e = cc
+
+  pub fill-refused : (n p : ℕ) → o ≡ Denied n p → toldOutcome o ≡ fillAnswer (layoutOf x) s d
+  unfolding fillAnswer fillSheet bind
+  fill-refused n p h = rw (unread n p h, h)
+
+  pub fill-kept : (n p : ℕ) → o ≡ Denied n p → d ≡ fillAfter (layoutOf x) s d
+  unfolding fillAfter fillSheet bind stored
+  fill-kept n p h = rw (unread n p h)
+
+  module _ (l : ℕ) (h : o ≡ Length l) (j : Item) (k : j ≡ node sequence (layoutOf x)) (y : Outcome) (d′ : List ℕ)
+      (e : (y, d′) ≡ ends (sent 4294967295 (move side.Record side.Sheet j s 0 (length s) .1) (length d)) d) where
+    filled : sent 4294967295 (move side.Record side.Sheet j s 0 (length s) .1) (length d) ≡ fillSheet largest-record (layoutOf x) s (length d)
+    filled = go (accept largest-record (layoutOf x) s) refl (rw (i, h) at t)
+      where
+        go : (a : Res (Values (layoutOf x))) → accept largest-record (layoutOf x) s ≡ a → toldOutcome (Length l) ≡ answered (λ v. length s) a
+            → sent 4294967295 (move side.Record side.Sheet j s 0 (length s) .1) (length d) ≡ fillSheet largest-record (layoutOf x) s (length d)
+        go (good v) a u = rw k (sheet-sent (layoutOf x) s (both-clear x) v a (length d))
+        go (fault n p) a u = never (cc)
+
+    pub fill-sent : toldOutcome y ≡ fillAnswer (layoutOf x) s d
+    unfolding fillAnswer
+    fill-sent = ends-told y d′ d _ e ∙ ap (answered (λ x. length x)) filled
+
+    pub fill-stored : d′ ≡ fillAfter (layoutOf x) s d
+    unfolding fillAfter
+    fill-stored = ends-stored y d′ d _ e ∙ ap (λ (z : Res (List ℕ)). stored z d) filled
+
+-- ---- a sheet read, then sent
+
+node-fill : (r : Members) (w : List ℕ) (a : Got (Values r)) → fills r w 0 ≡ good a → fill (node sequence r) w 0 ≡ good a
+unfolding fill
+node-fill r w a h = h
+
+node-record : (r : Members) (v : Values r) → encode (node sequence r) v ≡ recordOf r v
+unfolding encode
+node-record r v = refl
+
+-- the record of an accepted sheet
+record-sent : (r : Members) (s : List ℕ) (v : Values r) → acceptSheet r s ≡ good v → (room : ℕ)
+    → sent 65535 (move side.Sheet side.Record (node sequence r) s 0 (length s) .1) room ≡ writeRecord largest-record r s room
+unfolding acceptSheet writeRecord sent
+record-sent r s v h room =
+    by-bind _ _ _ h λ a e₁ e₂.
+    let w : slice 0 (length s) s ≡ s = take-length s in
+    let m : move side.Sheet side.Record (node sequence r) s 0 (length s) .1 ≡ recordOf r v =
+    ap (λ (q : Moved). q .1) (move-fill s side.Record (node sequence r) 0 (length s) (omega arith) (omega arith) a (node-fill r (slice 0 (length s) s) a (rw w e₁))) ∙ node-record r (a .value) ∙ ap (recordOf r) (finish-back bad-sheet a v e₂ .1) in
+    rw m (sym (bind-eq _ h))
+
+module _ (x : Record) (s d : List ℕ) (m : Members) (i : m ≡ layoutOf x) (o : Step) (t : o ≡ whole (length s) (acceptSheet m s)) where
+  untaken : (n p : ℕ) → o ≡ Refused n p → acceptSheet (layoutOf x) s ≡ fault n p
+  untaken n p h = go (acceptSheet (layoutOf x) s) (sym h ∙ (rw i at t))
+    where
+      go : (a : Res (Values (layoutOf x))) → Refused n p ≡ whole (length s) a → a ≡ fault n p
+      go (good v) e = never (cc)
+      go (fault n′ p′) e = cc
+
+  pub write-refused : (n p : ℕ) → o ≡ Refused n p → toldOutcome (Denied n p) ≡ writeAnswer (layoutOf x) s d
+  unfolding writeAnswer writeRecord bind
+  write-refused n p h = rw (untaken n p h)
+
+  pub write-kept : (n p : ℕ) → o ≡ Refused n p → d ≡ writeAfter (layoutOf x) s d
+  unfolding writeAfter writeRecord bind stored
+  write-kept n p h = rw (untaken n p h)
+
+  module _ (l : ℕ) (h : o ≡ Next l) (j : Item) (k : j ≡ node sequence (layoutOf x)) (y : Outcome) (d′ : List ℕ)
+      (e : (y, d′) ≡ ends (sent 65535 (move side.Sheet side.Record j s 0 (length s) .1) (length d)) d) where
+    written : sent 65535 (move side.Sheet side.Record j s 0 (length s) .1) (length d) ≡ writeRecord largest-record (layoutOf x) s (length d)
+    written = go (acceptSheet (layoutOf x) s) refl (sym h ∙ (rw i at t))
+      where
+        go : (a : Res (Values (layoutOf x))) → acceptSheet (layoutOf x) s ≡ a → Next l ≡ whole (length s) a
+            → sent 65535 (move side.Sheet side.Record j s 0 (length s) .1) (length d) ≡ writeRecord largest-record (layoutOf x) s (length d)
+        go (good v) a u = rw k (record-sent (layoutOf x) s v a (length d))
+        go (fault n p) a u = never (cc)
+
+    pub write-sent : toldOutcome y ≡ writeAnswer (layoutOf x) s d
+    unfolding writeAnswer
+    write-sent = ends-told y d′ d _ e ∙ ap (answered (λ x. length x)) written
+
+    pub write-stored : d′ ≡ writeAfter (layoutOf x) s d
+    unfolding writeAfter
+    write-stored = ends-stored y d′ d _ e ∙ ap (λ (z : Res (List ℕ)). stored z d) written
+
+-- ---- the item that a record is
+
+pub item-seal : (x : Record) → x ≡ Seal → itemOf structure.Seal ≡ node sequence (layoutOf x)
+item-seal x i = rw i
+
+pub item-signature : (x : Record) → x ≡ Signature → itemOf structure.Signature ≡ node sequence (layoutOf x)
+item-signature x i = rw i
