@@ -1,17 +1,17 @@
 -- There and back, by the two calls. Assumes nothing.
 use mathlib.Core.Path.{_≡_, refl, sym, ap, _∙_}
-use Prim.Native.Nat.{ℕ, _≤_, _<_}
+use Prim.Native.Nat.{ℕ, _≤_}
 use native.Mathlib.Omega.{arith}
-use mathlib.Core.List.{List, _++_}
+use mathlib.Core.List.{List}
 use lib.ListN.{length, take, drop, length-append}
 use lib.Seq.{take-at}
 use lib.Dec.{T, leb, leb→le, le→leb}
 use Rattle.terms.specs.Numbers.{no-room, too-large, largest-record}
-use Rattle.terms.specs.Answer.{Res, good, fault, bind, need, answered}
+use Rattle.terms.specs.Answer.{Res, good, fault, bind, answered}
 use Rattle.terms.specs.Laws.Answer.{never, good-inj, and-r, by-bind, by-need, bind-eq, need-eq}
-use Rattle.layouts.specs.Layout.{Members, Values, Oks, node}
+use Rattle.layouts.specs.Layout.{node}
 use Rattle.layouts.specs.Sheet.{sheets}
-use Rattle.layouts.specs.Whole.{sequence, recordOf, accept, acceptSheet, fit, fillSheet, writeRecord, stored, toldOutcome}
+use Rattle.layouts.specs.Whole.{sequence, recordOf, fit, fillSheet, writeRecord, stored, toldOutcome}
 use Rattle.layouts.specs.Laws.Reading.{clear, clears, spare}
 use Rattle.layouts.specs.Laws.Whole.{accept-back, accept-there, sheet-back, sheet-taken}
 use Rattle.layouts.specs.declared.Outcome.{Outcome}

@@ -1,7 +1,6 @@
 -- There and back: what is written back is what was given. Assumes nothing.
 use Prim.Native.Nat.{ℕ}
 use mathlib.Core.List.{List}
-use lib.ListN.{length}
 use Rattle.terms.specs.Numbers.{largest-record}
 use Rattle.terms.specs.Answer.{Res, bind}
 use Rattle.layouts.specs.Layout.{Members}

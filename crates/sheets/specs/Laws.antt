@@ -3,13 +3,13 @@ use mathlib.Core.Path.{_≡_, refl, sym, ap, _∙_}
 use Prim.Native.Nat.{ℕ, _+_, _*_, _≤_, _<_}
 use native.Mathlib.Omega.{arith}
 use native.Mathlib.Nat.{zero-add}
-use mathlib.Core.List.{List, [], _∷_, _++_}
+use mathlib.Core.List.{List, _++_}
 use lib.ListN.{length, drop}
 use lib.Seq.{slice, take-length}
 use lib.Dec.{T, leb, leb→le, nleb→lt}
 use borrow.Author.Tests.{le-leb, lt-leb}
 use Rattle.terms.specs.Numbers.{too-large, no-room, bad-sheet, left-over, largest-record}
-use Rattle.terms.specs.Answer.{Res, good, fault, Got, got, bind, need, finish, answered}
+use Rattle.terms.specs.Answer.{Res, good, fault, Got, got, bind, need, answered}
 use Rattle.terms.specs.Laws.Answer.{never, good-inj, by-bind, bind-eq, test}
 use Rattle.heads.specs.Head.{Cut, forms, head}
 use Rattle.heads.specs.Laws.Head.{outermost-back}
@@ -35,7 +35,7 @@ use Rattle.sides.specs.declared.Side.{Side}
 use Rattle.sides.specs.declared.Side.the-variants as side
 use Rattle.sides.specs.Move.{Moved, move}
 use Rattle.sides.specs.Laws.Move.{move-read, move-fill}
-use Rattle.stores.specs.Store.{cap, advance, put}
+use Rattle.stores.specs.Store.{cap, advance}
 use Rattle.stores.specs.Laws.Store.{advance-small, advance-full, put-start}
 use Rattle.pieces.specs.Piece.{wrote}
 use Rattle.sheets.specs.Send.{outcomeOf, sent, ends}
