@@ -37,7 +37,8 @@ fn send(s: &[u8], from: Side, to: Side, x: Structure, most: usize, dst: &mut [u8
     ensures { λ r. ⌜ (r, now (dst .exit)) ≡ ends (sent most (moveItem from to (layoutOf x) (now (s .entry)) 0 (length (now (s .entry))) .1) (length (now (dst .entry)))) (now (dst .entry)) ⌝ }
 {
     let mut nothing = [0u8; 0];
-    let n = moves::item(s, from, to, x, 0, s.len(), &mut nothing, 0);
+    let none: &mut [u8] = &mut nothing;
+    let n = moves::item(s, from, to, x, 0, s.len(), none, 0);
     let size = n.to;
     if most < size {
         return Outcome::Refused(TOO_LARGE, 0);

@@ -4,8 +4,8 @@ use borrow.Author.Needs.{needs}
 use Rattle.sheets.proofs.send.Statement.{statement}
 use Rattle.sheets.proofs.send.Tie as tie
 
-slice-aggregate-item : tie.Need-slice-aggregate-item
-slice-aggregate-item c = search needs
+slice-aggregate-none : tie.Need-slice-aggregate-none
+slice-aggregate-none c = search needs
 
 item-requires : tie.Need-item-requires
 item-requires c κs = search needs
@@ -29,7 +29,7 @@ pub send-spec : {M : Type 1} → statement M
 send-spec =
     tie.close
     (tie.spec
-    slice-aggregate-item
+    slice-aggregate-none
     item-requires
     returns
     returns-2
