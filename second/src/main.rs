@@ -7,6 +7,8 @@ use second::generate::random::Random;
 use second::generate::tree::signature_input;
 use second::generate::values::SignatureValue;
 use second::generate::{generate, SEED};
+use second::refusal::Refusal;
+use second::writer::{fill_from_signature, write_signature};
 use std::fs::{self, File};
 use std::io::{self, BufReader, BufWriter, Read, Write};
 use std::num::NonZeroUsize;
@@ -19,10 +21,14 @@ const RECORDS: usize = 500;
 /// The most bytes that are read of one record: no byte after them changes its answer.
 const MOST_READ: u64 = 65_536;
 
+/// The room for a sheet, and for a record.
+const ROOM: usize = 65_536;
+
 const REFUSED: u8 = 1;
 const FAILED: u8 = 2;
 
-const USAGE: &str = "usage: second check [FILE] | second lines DIRECTORY | second answer CASES
+const USAGE: &str = "usage: second check [FILE] | second sheet [FILE] | second write [FILE]
+       second lines DIRECTORY | second answer CASES
        second make DIRECTORY | second records DIRECTORY | second signatures CASES EACH DIRECTORY
 Exit status: 0 done, for check accepted; 1 refused; 2 failed.";
 
@@ -47,6 +53,18 @@ fn run(words: &[&str]) -> io::Result<ExitCode> {
     match *words {
         ["check"] | ["check", "-"] => return check(io::stdin().lock(), "standard input"),
         ["check", path] => return check(open(path)?, path),
+        ["sheet"] | ["sheet", "-"] => {
+            return deliver(
+                io::stdin().lock().take(MOST_READ),
+                "standard input",
+                fill_from_signature,
+            )
+        }
+        ["sheet", path] => return deliver(open(path)?.take(MOST_READ), path, fill_from_signature),
+        ["write"] | ["write", "-"] => {
+            return deliver(io::stdin().lock(), "standard input", write_signature)
+        }
+        ["write", path] => return deliver(open(path)?, path, write_signature),
         ["make", directory] => make(Path::new(directory)),
         ["answer", cases] => answer_all(cases),
         ["records", directory] => write_records(Path::new(directory)),
@@ -85,6 +103,36 @@ fn check(input: impl Read, name: &str) -> io::Result<ExitCode> {
     } else {
         ExitCode::from(REFUSED)
     })
+}
+
+/// Writes what a writer makes of an input, or the line of the refusal; gives whether it was written.
+fn deliver(
+    mut input: impl Read,
+    name: &str,
+    writer: fn(&[u8], &mut [u8]) -> Result<usize, Refusal>,
+) -> io::Result<ExitCode> {
+    let mut source = Vec::new();
+    input
+        .read_to_end(&mut source)
+        .map_err(|error| about(name, error))?;
+    let mut destination = vec![0; ROOM];
+    match writer(&source, &mut destination) {
+        Ok(size) => {
+            let mut out = io::stdout().lock();
+            out.write_all(&destination[..size])?;
+            out.flush()?;
+            Ok(ExitCode::SUCCESS)
+        }
+        Err(refusal) => {
+            writeln!(
+                io::stdout(),
+                "REFUSED {} {}",
+                refusal.number(),
+                refusal.place
+            )?;
+            Ok(ExitCode::from(REFUSED))
+        }
+    }
 }
 
 /// Writes the case file and the answers, and prints what they reach.

@@ -4,13 +4,13 @@ use Prim.Native.Nat.{ℕ, _+_, _*_, _≤_, _<_}
 use native.Mathlib.Omega.{arith}
 use native.Mathlib.Nat.{zero-add}
 use mathlib.Core.List.{List, _++_}
-use lib.ListN.{length, drop}
-use lib.Seq.{slice, take-length}
+use lib.ListN.{length, take, drop}
+use lib.Seq.{slice, take-length, length-take-le}
 use lib.Dec.{T, leb, leb→le, nleb→lt}
 use borrow.Author.Tests.{le-leb, lt-leb}
 use Rattle.terms.specs.Numbers.{too-large, no-room, bad-sheet, left-over, largest-record}
 use Rattle.terms.specs.Answer.{Res, good, fault, Got, got, bind, need, answered}
-use Rattle.terms.specs.Laws.Answer.{never, good-inj, by-bind, bind-eq, test}
+use Rattle.terms.specs.Laws.Answer.{never, good-inj, by-bind, by-need, bind-eq, test}
 use Rattle.heads.specs.Head.{Cut, forms, head}
 use Rattle.heads.specs.Laws.Head.{outermost-back}
 use Rattle.heads.specs.declared.Step.{Step}
@@ -170,6 +170,31 @@ module _ (x : Record) (s d : List ℕ) (m : Members) (i : m ≡ layoutOf x) (o :
     pub fill-stored : d′ ≡ fillAfter (layoutOf x) s d
     unfolding fillAfter
     fill-stored = ends-stored y d′ d _ e ∙ ap (λ (z : Res (List ℕ)). stored z d) filled
+
+-- ---- a sheet lies within its destination
+
+fit-within : (room : ℕ) (x y : List ℕ) → fit room x ≡ good y → length y ≤ room
+unfolding fit
+fit-within room x y e = by-need _ _ _ _ y e λ h g. rw (← good-inj g) (leb→le (length x) room h)
+
+fill-within : (r : Members) (s : List ℕ) (room : ℕ) (y : List ℕ) → fillSheet largest-record r s room ≡ good y → length y ≤ room
+unfolding fillSheet
+fill-within r s room y e = by-bind _ _ y e λ v a b. fit-within room (sheets r v) y b
+
+module _ (o : Outcome) (n : ℕ) (i : o ≡ Length n) (r : Members) (s d : List ℕ) (t : toldOutcome o ≡ fillAnswer r s d) where
+  filled-fits : n ≤ length d
+  unfolding fillAnswer
+  filled-fits = go (fillSheet largest-record r s (length d)) refl (rw i at t)
+    where
+      go : (y : Res (List ℕ)) → fillSheet largest-record r s (length d) ≡ y → toldOutcome (Length n) ≡ answered (λ x. length x) y → n ≤ length d
+      go (good y) e u = let k : n ≡ length y = cc in rw k (fill-within r s (length d) y e)
+      go (fault m p) e u = never (cc)
+
+  pub filled-within : (d′ : List ℕ) → length d′ ≡ length d → n ≤ length d′
+  filled-within d′ e = rw e filled-fits
+
+  pub filled-taken : (d′ : List ℕ) → length d′ ≡ length d → n ≡ length (take n d′)
+  filled-taken d′ e = sym (length-take-le n d′ (rw e filled-fits))
 
 -- ---- a sheet read, then sent
 

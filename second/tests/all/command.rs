@@ -1,6 +1,6 @@
 //! The program as it is called: what it prints, what it says on standard error, and its exit status.
 
-use crate::hand::s;
+use crate::hand::{s, s_sheet};
 use std::io::Write;
 use std::path::Path;
 use std::process::{Command, Output, Stdio};
@@ -53,6 +53,27 @@ fn one_record_is_checked() {
     );
     expect(&["check", "/nope"], &[], 2, "", "second: /nope: ");
     expect(&["check", "samples"], &[], 2, "", "second: samples: ");
+}
+
+#[test]
+fn one_sheet_is_filled_and_one_record_written() {
+    for (words, input, written) in [
+        (["sheet", "-"], s(), s_sheet()),
+        (["sheet", "samples/s.der"], Vec::new(), s_sheet()),
+        (["write", "-"], s_sheet(), s()),
+        (["write", "crates/sheet_record/stdout"], Vec::new(), s()),
+    ] {
+        let output = run(&words, &input);
+        assert_eq!(output.status.code(), Some(0), "{words:?}");
+        assert_eq!(output.stdout, written, "{words:?}");
+        assert!(output.stderr.is_empty(), "{words:?}");
+    }
+    let largest = ["sheet", "samples/largest.der"];
+    expect(&largest, &[], 1, "REFUSED 20 65589\n", "");
+    expect(&["sheet"], &[], 1, "REFUSED 1 0\n", "");
+    expect(&["write"], &[], 1, "REFUSED 19 0\n", "");
+    expect(&["sheet", "/nope"], &[], 2, "", "second: /nope: ");
+    expect(&["write", "samples"], &[], 2, "", "second: samples: ");
 }
 
 #[test]
