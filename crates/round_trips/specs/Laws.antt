@@ -1,10 +1,8 @@
 -- There and back, by the two calls. Assumes nothing.
-use mathlib.Core.Path.{_≡_, refl, sym, ap, _∙_}
+use mathlib.Core.Path.{_≡_, sym, ap, _∙_}
 use Prim.Native.Nat.{ℕ, _≤_}
-use native.Mathlib.Omega.{arith}
 use mathlib.Core.List.{List}
-use lib.ListN.{length, take, drop, length-append}
-use lib.Seq.{take-at}
+use lib.ListN.{length, take}
 use lib.Dec.{T, leb, leb→le, le→leb}
 use Rattle.terms.specs.Numbers.{no-room, too-large, largest-record}
 use Rattle.terms.specs.Answer.{Res, good, fault, bind, answered}
@@ -20,6 +18,7 @@ use Rattle.records.specs.declared.Record.{Record}
 use Rattle.records.specs.declared.Record.the-variants.{Seal, Signature}
 use Rattle.records.specs.Handing.{layoutOf, fillAnswer, fillAfter, writeAnswer, writeAfter}
 use Rattle.records.specs.Laws.Record.{seal-clear, signature-clear, record-spelled}
+use Rattle.sheets.specs.Laws.{sent-good, front-is, front-room, sheet-there}
 use Rattle.round_trips.specs.Trip.{recordTrip, sheetTrip}
 
 -- ---- what was sent, by the answer
@@ -28,25 +27,10 @@ sent-refused : (y : Res (List ℕ)) (n p : ℕ) → toldOutcome (Refused n p) �
 sent-refused (good x) n p h = never (cc)
 sent-refused (fault m q) n p h = cc
 
-sent-good : (y : Res (List ℕ)) (n : ℕ) → toldOutcome (Length n) ≡ answered (λ x. length x) y → (x : List ℕ) × (y ≡ good x) × (n ≡ length x)
-sent-good (good x) n h = (x, refl, cc)
-sent-good (fault m q) n h = never (cc)
-
 -- what fits is there, and not longer than the room
 fit-good : (room : ℕ) (x z : List ℕ) → fit room x ≡ good z → (x ≡ z) × (length z ≤ room)
 unfolding fit
 fit-good room x z h = by-need (leb (length x) room) no-room (length x) (good x) z h λ t e. let q = good-inj e in (q, rw q at (leb→le (length x) room t))
-
--- ---- the second call, on what the first one left
-
-module _ (y : Res (List ℕ)) (d d₁ : List ℕ) (n : ℕ) (x : List ℕ) (h : y ≡ good x) (l : n ≡ length x) (k : d₁ ≡ stored y d) where
-  front-is : take n d₁ ≡ x
-  unfolding stored
-  front-is = rw (k, h) (take-at x (drop (length x) d) n (sym l))
-
-  front-room : n ≤ length d₁
-  unfolding stored
-  front-room = let e = ap length (k ∙ ap (λ (z : Res (List ℕ)). stored z d) h) ∙ length-append x (drop (length x) d) in omega arith
 
 -- ---- a record and back
 
@@ -81,23 +65,10 @@ module _ (x : Record) (w d : List ℕ) (o : Outcome) (t : toldOutcome o ≡ fill
     record-kept = rw unfilled
 
   module _ (n : ℕ) (h : o ≡ Length n) where
-    filled : (z : List ℕ) × (fillSheet largest-record (layoutOf x) w (length d) ≡ good z) × (n ≡ length z)
-    unfolding fillAnswer
-    filled = sent-good _ n (rw h at t)
-
-    -- what was filled stands in the sheet
-    pub record-room : n ≤ length d₁
-    unfolding fillAfter
-    record-room = let (z, g, l) = filled in front-room _ d d₁ n z g l k
-
-    pub record-cut : n ≡ length (take n d₁)
-    unfolding fillAfter
-    record-cut = let (z, g, l) = filled in l ∙ ap length (sym (front-is _ d d₁ n z g l k))
-
     trip-is : (e : List ℕ) → writeRecord largest-record (layoutOf x) (take n d₁) (length e) ≡ recordTrip (layoutOf x) w (length d) (length e)
     unfolding fillAfter recordTrip
     trip-is e =
-        let (z, g, l) = filled in
+        let (z, g, l) = sheet-there (layoutOf x) w d o t n h in
         ap (λ (u : List ℕ). writeRecord largest-record (layoutOf x) u (length e)) (front-is _ d d₁ n z g l k) ∙ sheet-writes x w (length d) (length e) z g .1 ∙ sym (bind-eq _ g)
 
     module _ (e : List ℕ) where

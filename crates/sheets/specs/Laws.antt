@@ -4,13 +4,13 @@ use Prim.Native.Nat.{ℕ, _+_, _*_, _≤_, _<_}
 use native.Mathlib.Omega.{arith}
 use native.Mathlib.Nat.{zero-add}
 use mathlib.Core.List.{List, _++_}
-use lib.ListN.{length, take, drop}
-use lib.Seq.{slice, take-length, length-take-le}
+use lib.ListN.{length, take, drop, length-append}
+use lib.Seq.{slice, take-length, take-at}
 use lib.Dec.{T, leb, leb→le, nleb→lt}
 use borrow.Author.Tests.{le-leb, lt-leb}
 use Rattle.terms.specs.Numbers.{too-large, no-room, bad-sheet, left-over, largest-record}
 use Rattle.terms.specs.Answer.{Res, good, fault, Got, got, bind, need, answered}
-use Rattle.terms.specs.Laws.Answer.{never, good-inj, by-bind, by-need, bind-eq, test}
+use Rattle.terms.specs.Laws.Answer.{never, good-inj, by-bind, bind-eq, test}
 use Rattle.heads.specs.Head.{Cut, forms, head}
 use Rattle.heads.specs.Laws.Head.{outermost-back}
 use Rattle.heads.specs.declared.Step.{Step}
@@ -171,31 +171,6 @@ module _ (x : Record) (s d : List ℕ) (m : Members) (i : m ≡ layoutOf x) (o :
     unfolding fillAfter
     fill-stored = ends-stored y d′ d _ e ∙ ap (λ (z : Res (List ℕ)). stored z d) filled
 
--- ---- a sheet lies within its destination
-
-fit-within : (room : ℕ) (x y : List ℕ) → fit room x ≡ good y → length y ≤ room
-unfolding fit
-fit-within room x y e = by-need _ _ _ _ y e λ h g. rw (← good-inj g) (leb→le (length x) room h)
-
-fill-within : (r : Members) (s : List ℕ) (room : ℕ) (y : List ℕ) → fillSheet largest-record r s room ≡ good y → length y ≤ room
-unfolding fillSheet
-fill-within r s room y e = by-bind _ _ y e λ v a b. fit-within room (sheets r v) y b
-
-module _ (o : Outcome) (n : ℕ) (i : o ≡ Length n) (r : Members) (s d : List ℕ) (t : toldOutcome o ≡ fillAnswer r s d) where
-  filled-fits : n ≤ length d
-  unfolding fillAnswer
-  filled-fits = go (fillSheet largest-record r s (length d)) refl (rw i at t)
-    where
-      go : (y : Res (List ℕ)) → fillSheet largest-record r s (length d) ≡ y → toldOutcome (Length n) ≡ answered (λ x. length x) y → n ≤ length d
-      go (good y) e u = let k : n ≡ length y = cc in rw k (fill-within r s (length d) y e)
-      go (fault m p) e u = never (cc)
-
-  pub filled-within : (d′ : List ℕ) → length d′ ≡ length d → n ≤ length d′
-  filled-within d′ e = rw e filled-fits
-
-  pub filled-taken : (d′ : List ℕ) → length d′ ≡ length d → n ≡ length (take n d′)
-  filled-taken d′ e = sym (length-take-le n d′ (rw e filled-fits))
-
 -- ---- a sheet read, then sent
 
 node-fill : (r : Members) (w : List ℕ) (a : Got (Values r)) → fills r w 0 ≡ good a → fill (node sequence r) w 0 ≡ good a
@@ -258,3 +233,33 @@ item-seal x i = rw i
 
 pub item-signature : (x : Record) → x ≡ Signature → itemOf structure.Signature ≡ node sequence (layoutOf x)
 item-signature x i = rw i
+
+-- ---- what was sent stands in its destination
+
+pub sent-good : (y : Res (List ℕ)) (n : ℕ) → toldOutcome (Length n) ≡ answered (λ x. length x) y → (x : List ℕ) × (y ≡ good x) × (n ≡ length x)
+sent-good (good x) n h = (x, refl, cc)
+sent-good (fault m q) n h = never (cc)
+
+module _ (y : Res (List ℕ)) (d d₁ : List ℕ) (n : ℕ) (x : List ℕ) (h : y ≡ good x) (l : n ≡ length x) (k : d₁ ≡ stored y d) where
+  pub front-is : take n d₁ ≡ x
+  unfolding stored
+  front-is = rw (k, h) (take-at x (drop (length x) d) n (sym l))
+
+  pub front-room : n ≤ length d₁
+  unfolding stored
+  front-room = let e = ap length (k ∙ ap (λ (z : Res (List ℕ)). stored z d) h) ∙ length-append x (drop (length x) d) in omega arith
+
+-- the sheet that was filled, and its room
+module _ (r : Members) (s d : List ℕ) (o : Outcome) (t : toldOutcome o ≡ fillAnswer r s d) (n : ℕ) (h : o ≡ Length n) where
+  pub sheet-there : (z : List ℕ) × (fillSheet largest-record r s (length d) ≡ good z) × (n ≡ length z)
+  unfolding fillAnswer
+  sheet-there = sent-good _ n (rw h at t)
+
+  module _ (d₁ : List ℕ) (k : d₁ ≡ fillAfter r s d) where
+    pub filled-room : n ≤ length d₁
+    unfolding fillAfter
+    filled-room = let (z, g, l) = sheet-there in front-room _ d d₁ n z g l k
+
+    pub filled-cut : n ≡ length (take n d₁)
+    unfolding fillAfter
+    filled-cut = let (z, g, l) = sheet-there in l ∙ ap length (sym (front-is _ d d₁ n z g l k))

@@ -1,5 +1,6 @@
 -- `round_trips::record_and_back`: filled, then written from what was filled.
-use Rattle.round_trips.specs.Laws.{record-refused, record-kept, record-room, record-cut, record-told, record-returns}
+use Rattle.sheets.specs.Laws.{filled-room, filled-cut}
+use Rattle.round_trips.specs.Laws.{record-refused, record-kept, record-told, record-returns}
 use borrow.Author.Needs.{needs}
 use Rattle.round_trips.proofs.record_and_back.Statement.{statement}
 use Rattle.round_trips.proofs.record_and_back.Tie as tie
@@ -20,10 +21,10 @@ returns : tie.Need-returns
 returns c = (search (needs, record-refused), (search needs, search (needs, record-kept)))
 
 slice-reshare-prefix-write : tie.Need-slice-reshare-prefix-write
-slice-reshare-prefix-write c = search (needs, record-room)
+slice-reshare-prefix-write c = search (needs, filled-room)
 
 slice-aggregate-write : tie.Need-slice-aggregate-write
-slice-aggregate-write c = search (needs, record-cut)
+slice-aggregate-write c = search (needs, filled-cut)
 
 write-requires : tie.Need-write-requires
 write-requires c κs = search needs

@@ -1,6 +1,6 @@
 -- `sheet_record::main`: what was filled is a part of the input, and what is written is a part of the sheet.
 use Rattle.streams.specs.Laws.{counted-within, counted-taken}
-use Rattle.sheets.specs.Laws.{filled-within, filled-taken}
+use Rattle.sheets.specs.Laws.{filled-room, filled-cut}
 use borrow.Author.Needs.{needs}
 use Rattle.sheet_record.proofs.main.Statement.{statement}
 use Rattle.sheet_record.proofs.main.Tie as tie
@@ -42,10 +42,10 @@ enum-known-outcome : tie.Need-enum-known-outcome
 enum-known-outcome c = search needs
 
 array-share-prefix-sheet : tie.Need-array-share-prefix-sheet
-array-share-prefix-sheet c = search (needs, filled-within)
+array-share-prefix-sheet c = search (needs, filled-room)
 
 slice-aggregate-write-all : tie.Need-slice-aggregate-write-all
-slice-aggregate-write-all c = search (needs, filled-taken)
+slice-aggregate-write-all c = search (needs, filled-cut)
 
 write-all-requires : tie.Need-write-all-requires
 write-all-requires c κs = search needs
