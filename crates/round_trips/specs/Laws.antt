@@ -136,3 +136,15 @@ module _ (x : Record) (s d : List ℕ) (o : Outcome) (t : toldOutcome o ≡ writ
       pub sheet-returns : (e₁ : List ℕ) → e₁ ≡ fillAfter (layoutOf x) (take n d₁) e → e₁ ≡ stored (sheetTrip (layoutOf x) s (length d) (length e)) e
       unfolding fillAfter
       sheet-returns e₁ u = u ∙ ap (λ (z : Res (List ℕ)). stored z e) (back-is e)
+
+-- ---- what came back stands in its destination
+
+module _ (o : Outcome) (y : Res (List ℕ)) (t : toldOutcome o ≡ answered (λ x. length x) y) (e e₁ : List ℕ) (k : e₁ ≡ stored y e) (n : ℕ) (h : o ≡ Length n) where
+  returned : (z : List ℕ) × (y ≡ good z) × (n ≡ length z)
+  returned = sent-good y n (rw h at t)
+
+  pub returned-room : n ≤ length e₁
+  returned-room = let (z, g, l) = returned in front-room y e e₁ n z g l k
+
+  pub returned-cut : n ≡ length (take n e₁)
+  returned-cut = let (z, g, l) = returned in l ∙ ap length (sym (front-is y e e₁ n z g l k))
