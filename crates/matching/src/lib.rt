@@ -61,7 +61,7 @@ fn listed(s: &[u8], given: &[u8], kind_1: bool, at: usize, end: usize) -> Part
 }
 
 // Whether the kind that a table of places has is 1.
-fn is_kind_1(s: &[u8], places: &[usize]) -> bool
+pub fn is_kind_1(s: &[u8], places: &[usize]) -> bool
     ensures { λ r. ⌜ r ≡ saysKind1 (bytesAt (now (s .entry)) (partUnder ListKind (now (places .entry)))) ⌝ }
 {
     windows::is_same(fields::cut_under(s, places, Field::ListKind), b"\x01")
