@@ -53,3 +53,36 @@ pub enum Verdict {
     Judged(u8, bool),
     Refused(u8, usize),
 }
+
+// The numbers of verdicts, by the names that `Numbers` has for them, and that of a time that is no real date; every answer that cites one is proved to be its number.
+pub const VALID: u8 = 0;
+
+pub const UNREAL_TIME: u8 = 18;
+
+pub const SIGNATURE_BAD: u8 = 21;
+
+pub const SIGNER_UNLISTED: u8 = 22;
+
+pub const SEAL_BAD: u8 = 23;
+
+pub const MAKER_BAD: u8 = 24;
+
+pub const MAKER_OUT_OF_FORCE: u8 = 25;
+
+pub const OUTSIDE_PERIOD: u8 = 26;
+
+pub const SEAL_WITHDRAWN: u8 = 27;
+
+pub const SIGNER_BAD: u8 = 28;
+
+pub const OUTSIDE_DATES: u8 = 29;
+
+pub const SIGNER_REVOKED: u8 = 30;
+
+pub const DIGEST_DIFFERS: u8 = 31;
+
+pub const STAMP_BAD: u8 = 32;
+
+pub const AFTER_STAMP: u8 = 33;
+
+pub const SIGNER_OUT_AT_STAMP: u8 = 34;
