@@ -10,12 +10,12 @@ use Rattle.terms.specs.Laws.Table.{Row, asks, answers, agreed}
 use Rattle.records.specs.Record.{seal, signature}
 use Rattle.records.specs.Samples.{recordS, recordD}
 use Rattle.records.specs.Examples.{evaluate, sealS}
-use Rattle.runs.specs.Run.{andThen, onward, runFrom, readRun, runAnswer, Reader, made, hereIn, hereAt, oneMore, stepAfter, stepAnswer, handedRecord, toldStepped, toldCounted}
+use Rattle.runs.specs.Run.{andThen, onward, runFrom, readRun, runAnswer, Reader, at, made, hereIn, hereAt, oneMore, stepAfter, stepAnswer, stepPart, handedRecord, toldStepped, toldCounted}
 use Rattle.runs.specs.declared.Stepped.the-variants.{Record, End, Refused}
 use Rattle.runs.specs.declared.Counted.the-variants.{Records, Refused as RunRefused}
 
 evaluateRun : Unit {0}
-unfolding evaluate andThen onward runFrom readRun runAnswer hereIn hereAt oneMore stepAfter stepAnswer
+unfolding evaluate andThen onward runFrom readRun runAnswer hereIn hereAt oneMore stepAfter stepAnswer stepPart
 evaluateRun = tt
 
 -- a refusal's number and place, and the records before it
@@ -54,10 +54,6 @@ unfolding evaluateRun
 whole-runs = agreed runs tt
 
 -- ---- the run reader
-
--- a reader at a position, with a number of records handed out
-abbrev at : ℕ → ℕ → Reader
-at p k = record { position = p; handed = k }
 
 -- what a reader holds
 abbrev holds : Reader → Told
@@ -137,5 +133,9 @@ unfolding evaluateRun
 told-answers = agreed tellings tt
 
 -- the part handed out: the record, else "empty, at the run's start" (03, 37)
+parts : stepPart signature SS 0 ∷ stepPart signature SS 165 ∷ stepPart signature SS 330 ∷ stepPart signature SS 1 ∷ [] ≡ (0, 165) ∷ (165, 165) ∷ (0, 0) ∷ (0, 0) ∷ []
+unfolding evaluateRun
+parts = refl
+
 handings : handedRecord (Record 165 254) ∷ handedRecord End ∷ handedRecord (Refused other-tag 165 1) ∷ [] ≡ (165, 254) ∷ (0, 0) ∷ (0, 0) ∷ []
 handings = refl

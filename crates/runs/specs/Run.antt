@@ -11,6 +11,7 @@ use Rattle.layouts.specs.Layout.{Members, Values, each}
 use Rattle.layouts.specs.Whole.{recordOf, recordAt}
 use Rattle.runs.specs.declared.Stepped.{Stepped}
 use Rattle.runs.specs.declared.Stepped.the-variants.{Record, End, Refused as StepRefused}
+use Rattle.runs.specs.declared.Moved.{Moved}
 use Rattle.runs.specs.declared.Counted.{Counted}
 use Rattle.runs.specs.declared.Counted.the-variants.{Records, Refused as RunRefused}
 
@@ -62,9 +63,12 @@ pub record Reader : Type 0 where
   pub position : ℕ
   pub handed : ℕ
 
+abbrev pub at : ℕ → ℕ → Reader
+at p n = record { position = p; handed = n }
+
 -- "both 0 when it is made"
 abbrev pub made : Reader
-made = record { position = 0; handed = 0 }
+made = at 0 0
 
 -- what stands at a position: a record, none at the end, or a fault
 unfoldable pub hereIn : (r : Members) → List ℕ → ℕ → Res (Option (Got (Values r)))
@@ -85,7 +89,7 @@ oneMore n = pick (ltb n top) (n + 1) n
 
 -- "at the end, or at a fault, it stays and repeats that answer"
 abbrev pub afterHere : {A : Type 0} → Res (Option (Got A)) → Reader → Reader
-afterHere (good (some a)) x = record { position = a .after; handed = oneMore (x .handed) }
+afterHere (good (some a)) x = at (a .after) (oneMore (x .handed))
 afterHere (good none) x = x
 afterHere (fault n p) x = x
 
@@ -100,11 +104,14 @@ toldHere (fault n p) x = refusal-after n p (x .handed)
 unfoldable pub stepAnswer : (r : Members) → List ℕ → Reader → Told
 stepAnswer r s x = toldHere (hereAt r s (x .position)) x
 
--- "empty, at the run's start" (03, 37): start and length of what a step hands out
-abbrev pub handedRecord : Stepped → ℕ × ℕ
-handedRecord (Record a n) = (a, n)
-handedRecord End = (0, 0)
-handedRecord (StepRefused n p k) = (0, 0)
+-- "hands out one record at a time": start and length of the part; at the end and at a fault "empty, at the run's start" (03, 37)
+abbrev pub partHere : {A : Type 0} → Res (Option (Got A)) → ℕ → ℕ × ℕ
+partHere (good (some a)) p = (p, a .after - p)
+partHere (good none) p = (0, 0)
+partHere (fault n q) p = (0, 0)
+
+unfoldable pub stepPart : Members → List ℕ → ℕ → ℕ × ℕ
+stepPart r s p = partHere (hereAt r s p) p
 
 -- ---- what the code's answers say in the paper's terms
 
@@ -112,6 +119,16 @@ abbrev pub toldStepped : Stepped → Told
 toldStepped (Record a n) = told-two done a n
 toldStepped End = told-none run-end
 toldStepped (StepRefused n p k) = refusal-after n p k
+
+-- what a reader holds after a step
+abbrev pub held : Moved → Reader
+held m = at (m .position) (m .handed)
+
+-- start and length of what an answer names
+abbrev pub handedRecord : Stepped → ℕ × ℕ
+handedRecord (Record a n) = (a, n)
+handedRecord End = (0, 0)
+handedRecord (StepRefused n p k) = (0, 0)
 
 abbrev pub toldCounted : Counted → Told
 toldCounted (Records n) = told-one done n

@@ -16,7 +16,7 @@ use Rattle.layouts.specs.Layout.{Members, Values, All, each, encodes}
 use Rattle.layouts.specs.Whole.{sequence, recordOf, Allowed, recordAt}
 use Rattle.layouts.specs.Laws.Reading.{clears}
 use Rattle.layouts.specs.Laws.Whole.{recordAt-back, recordAt-there}
-use Rattle.runs.specs.Run.{runOf, Ran, whole, stopped, andThen, onward, runFrom, readRun, Reader, hereIn, hereAt, made, top, oneMore, stepAfter, stepAnswer, refusal-after}
+use Rattle.runs.specs.Run.{runOf, Ran, whole, stopped, andThen, onward, runFrom, readRun, Reader, hereIn, hereAt, at, made, top, oneMore, stepAfter, stepAnswer, refusal-after}
 
 -- a value whose record is accepted
 abbrev Accepted : (r : Members) → Values r → Type 0
@@ -24,7 +24,7 @@ Accepted r v = Allowed largest-record r v
 
 module _ (r : Members) where
   -- a record has a byte
-  record-some : (v : Values r) → 1 ≤ length (recordOf r v)
+  pub record-some : (v : Values r) → 1 ≤ length (recordOf r v)
   record-some v = omega (arith, length-tlv sequence (encodes r v))
 
   record-cons : (v : Values r) → (x : ℕ) × (y : List ℕ) × (recordOf r v ≡ x ∷ y)
@@ -192,7 +192,7 @@ module _ (r : Members) where
   -- ---- a step of the run reader, by what it sees
 
   pub step-takes : (s : List ℕ) (x : Reader) (a : Got (Values r)) (n : ℕ) → hereAt r s (x .position) ≡ good (some a) → a .after ≡ x .position + n
-      → (stepAnswer r s x ≡ told-two done (x .position) n) × (stepAfter r s x ≡ record { position = x .position + n; handed = oneMore (x .handed) })
+      → (stepAnswer r s x ≡ told-two done (x .position) n) × (stepAfter r s x ≡ at (x .position + n) (oneMore (x .handed)))
   unfolding stepAnswer stepAfter
   step-takes s x a n e h = let f : x .position + n - x .position ≡ n = omega arith in (rw (e, h, f) refl, rw (e, h) refl)
 
@@ -219,9 +219,6 @@ module _ (r : Members) where
   unfoldable pub handedRecords : List (Values r) → ℕ → List Told
   handedRecords [] b = []
   handedRecords (v ∷ vs) b = told-two done b (length (recordOf r v)) ∷ handedRecords vs (b + length (recordOf r v))
-
-  abbrev at : ℕ → ℕ → Reader
-  at p n = record { position = p; handed = n }
 
   -- over records, one after another
   walk-records : T (clears r) → (s : List ℕ) (vs : List (Values r)) → All (Accepted r) vs → (k m b n b′ n′ : ℕ) (before rest : List ℕ)
@@ -253,7 +250,7 @@ module _ (r : Members) where
   -- the records of a list in order, each with its place, and then one answer for ever
   abbrev pub Walked : List ℕ → List (Values r) → Told → Type 0
   Walked s vs t =
-      (k : ℕ) → (steps (length vs + k) s made ≡ handedRecords vs 0 ++ replicate k t) × (afterSteps (length vs + k) s made ≡ record { position = length (runOf r vs); handed = length vs })
+      (k : ℕ) → (steps (length vs + k) s made ≡ handedRecords vs 0 ++ replicate k t) × (afterSteps (length vs + k) s made ≡ at (length (runOf r vs)) (length vs))
 
   walk : T (clears r) → (s : List ℕ) (vs : List (Values r)) (rest : List ℕ) → All (Accepted r) vs → s ≡ runOf r vs ++ rest → length s ≤ top → (t : Told)
       → (stepAnswer r s (at (length (runOf r vs)) (length vs)) ≡ t) × (stepAfter r s (at (length (runOf r vs)) (length vs)) ≡ at (length (runOf r vs)) (length vs)) → Walked s vs t
