@@ -28,7 +28,7 @@ const REFUSED: u8 = 1;
 const FAILED: u8 = 2;
 
 const USAGE: &str = "usage: second check [FILE] | second sheet [FILE] | second write [FILE]
-       second lines DIRECTORY | second answer CASES
+       second lines DIRECTORY | second answer CASES | second plain CASES
        second make DIRECTORY | second records DIRECTORY | second signatures CASES EACH DIRECTORY
 Exit status: 0 done, for check accepted; 1 refused; 2 failed.";
 
@@ -67,6 +67,7 @@ fn run(words: &[&str]) -> io::Result<ExitCode> {
         ["write", path] => return deliver(open(path)?, path, write_signature),
         ["make", directory] => make(Path::new(directory)),
         ["answer", cases] => answer_all(cases),
+        ["plain", cases] => write_plain(cases),
         ["records", directory] => write_records(Path::new(directory)),
         ["signatures", cases, each, directory] => {
             write_signatures(cases, each, Path::new(directory))
@@ -167,6 +168,20 @@ fn answer_all(path: &str) -> io::Result<()> {
             return Err(io::Error::other("the file holds something that is no case"));
         };
         writeln!(out, "{}", answer(&case))?;
+    }
+    out.flush()
+}
+
+/// Writes the cases of a case file one after another, each as its size, four bytes, and its bytes.
+fn write_plain(path: &str) -> io::Result<()> {
+    let mut file = BufReader::new(open(path)?);
+    let mut out = BufWriter::new(io::stdout().lock());
+    while let Some(bytes) = unpack(&mut file)? {
+        let Ok(size) = u32::try_from(bytes.len()) else {
+            return Err(io::Error::other("the file holds a case whose size has more than four bytes"));
+        };
+        out.write_all(&size.to_be_bytes())?;
+        out.write_all(&bytes)?;
     }
     out.flush()
 }
