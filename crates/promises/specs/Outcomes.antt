@@ -23,7 +23,8 @@ use Rattle.records.specs.declared.Critical.{Critical}
 use Rattle.records.specs.declared.Critical.the-variants.{Is, Absent as NoCritical, Refused as CriticalRefused}
 use Rattle.records.specs.declared.Items.{Items}
 use Rattle.records.specs.declared.Items.the-variants.{Count, Absent as NoItems, Refused as ItemsRefused}
-use Rattle.runs.specs.Run.{toldStepped, toldCounted}
+use Rattle.runs.specs.Run.{held, toldStepped, toldCounted}
+use Rattle.runs.specs.declared.Moved.{Moved}
 use Rattle.runs.specs.declared.Stepped.{Stepped}
 use Rattle.runs.specs.declared.Stepped.the-variants.{Record, End, Refused as StepRefused}
 use Rattle.runs.specs.declared.Counted.{Counted}
@@ -123,6 +124,10 @@ stepped-back (StepRefused n p k) = refl
 
 pub one-step : (x y : Stepped) → toldStepped x ≡ toldStepped y → x ≡ y
 one-step = one-answer toldStepped stepped stepped-back
+
+-- of what is held after a step beside it
+pub one-move : (x y : Moved) → toldStepped (x .answer) ≡ toldStepped (y .answer) → held x ≡ held y → x ≡ y
+one-move x y e h = λ i. record { position = h i .position; handed = h i .handed; answer = one-step (x .answer) (y .answer) e i }
 
 abbrev counted : Told → Counted
 counted (gives n xs) = Records (nat 0 xs)

@@ -5,7 +5,7 @@ use mathlib.Core.Path.{_≡_, refl, sym, ap, _∙_, subst}
 use mathlib.Core.Bool.{Bool, false, not, _&&_}
 use mathlib.Core.Logic.{_⊎_}
 use mathlib.Core.Option.{none, some}
-use mathlib.Core.List.{List, [], _∷_, _++_}
+use mathlib.Core.List.{List, [], _∷_, _++_, map}
 use Prim.Native.Nat.{ℕ, _+_, _≤_, _<_}
 use native.Mathlib.Omega.{arith}
 use lib.ListN.{length, getD, take, drop}
@@ -36,7 +36,7 @@ use Rattle.records.specs.Handing.{readRecord, recordAnswer, fieldsIn, seek, han
 use Rattle.records.specs.Laws.Record as Record
 use Rattle.records.specs.Laws.Handing.{Tells}
 use Rattle.records.specs.Laws.Handing as Handing
-use Rattle.runs.specs.Run.{runOf, whole, stopped, readRun, Reader, hereAt, top, oneMore, stepAfter, stepAnswer, refusal-after}
+use Rattle.runs.specs.Run.{runOf, Ran, whole, stopped, readRun, runAnswer, Reader, at, made, hereAt, top, oneMore, stepAfter, stepAnswer, refusal-after}
 use Rattle.runs.specs.Laws.Run as Runs
 use Rattle.verdicts.specs.Verdict.{Step, firstFailing, Facts, factsOf, Rulebook, signatureRules, sealRules, makerOut, judged, verdict, toldVerdict}
 use Rattle.verdicts.specs.Findings.{allReal}
@@ -221,12 +221,16 @@ module _ (r : Members) (k : Clear r) where
 
   -- ---- demand 3: "Accepted records end to end, none or many"
 
-  -- "a run reads back exactly its list"
-  pub run-reads-back : (vs : List (Values r)) → All (Right r) vs → readRun r (runOf r vs) ≡ whole vs
-  run-reads-back vs ok = Runs.run-there r inner vs ok
+  -- "a run reads back exactly its list": every list of right values makes a run that reads as that list, and every accepted run is the bytes of such a list
+  pub run-reads-back : (vs : List (Values r)) → All (Right r) vs → (readRun r (runOf r vs) ≡ whole vs) × (runAnswer r (runOf r vs) ≡ told-one done (length vs))
+  run-reads-back vs ok = (Runs.run-there r inner vs ok, Runs.run-counted r inner vs ok)
 
-  pub every-run-is-a-list : (w : List ℕ) (vs : List (Values r)) → readRun r w ≡ whole vs → (w ≡ runOf r vs) × All (Right r) vs
-  every-run-is-a-list w vs e = Runs.run-back r w vs e
+  pub every-run-is-a-list : (w : List ℕ) (n : ℕ) → runAnswer r w ≡ told-one done n → (vs : List (Values r)) × (length vs ≡ n) × (w ≡ runOf r vs) × All (Right r) vs
+  every-run-is-a-list w n e = Runs.counted-back r w n e
+
+  -- "two lists of values never give the same bytes"
+  pub two-lists-differ : (us vs : List (Values r)) → All (Right r) us → All (Right r) vs → runOf r us ≡ runOf r vs → us ≡ vs
+  two-lists-differ us vs p q e = Runs.run-injective r inner us vs p q e
 
   -- a refused run: the records before the fault are what stands there, and the run reader stops at the same fault
   pub refused-run-stops : (w : List ℕ) (vs : List (Values r)) (n p : ℕ) → readRun r w ≡ stopped vs n p
@@ -249,7 +253,7 @@ module _ (r : Members) (k : Clear r) where
 
   -- it hands a record out where it stands, and goes on behind it with one more handed out; at the end and at a fault it stays
   pub reader-goes-on : (s p : List ℕ) (v : Values r) (w : List ℕ) (x : Reader) → Right r v → s ≡ p ++ (recordOf r v ++ w) → x .position ≡ length p
-      → (stepAnswer r s x ≡ told-two done (x .position) (length (recordOf r v))) × (stepAfter r s x ≡ record { position = x .position + length (recordOf r v); handed = oneMore (x .handed) })
+      → (stepAnswer r s x ≡ told-two done (x .position) (length (recordOf r v))) × (stepAfter r s x ≡ at (x .position + length (recordOf r v)) (oneMore (x .handed)))
   reader-goes-on s p v w x ok e h = Runs.step-takes r s x (got v w (x .position + length (recordOf r v))) (length (recordOf r v)) (rw h (reader-takes-a-record s p v w ok e)) refl
 
   pub reader-stays-at-the-end : (s : List ℕ) (x : Reader) → length s ≤ x .position → (stepAnswer r s x ≡ told-none run-end) × (stepAfter r s x ≡ x)
@@ -258,17 +262,33 @@ module _ (r : Members) (k : Clear r) where
   pub reader-stays-at-a-fault : (s : List ℕ) (x : Reader) (n p : ℕ) → hereAt r s (x .position) ≡ fault n p → (stepAnswer r s x ≡ refusal-after n p (x .handed)) × (stepAfter r s x ≡ x)
   reader-stays-at-a-fault s x n p h = Runs.step-faults r s x n p h
 
-  -- a whole walk, from a reader that was made: it hands out the records of the list in order, each with its place, and then answers the end for ever,
-  -- with as many handed out as the list has; over a refused run the records before the fault, and then the fault for ever. No lent run has more than 2 ^ 64 - 1 bytes.
-  pub reader-walks-a-run : (vs : List (Values r)) → All (Right r) vs → length (runOf r vs) ≤ top → Runs.Walked r (runOf r vs) vs (told-none run-end)
-  reader-walks-a-run vs ok h = Runs.run-walked r inner vs ok h
+  -- a run step by step, from a reader that was made: it hands out exactly the records of the list, in order, each with its place; the parts that it hands out
+  -- read as the list's values, one by one; and then it gives one answer for ever, with as many handed out as the list has
+  abbrev pub StepsThrough : List ℕ → List (Values r) → Told → Type 0
+  StepsThrough w vs t = Runs.Walked r w vs t × (map (readRecord r) (Runs.parts r (length vs) w made) ≡ map (λ v. good v) vs)
 
-  pub reader-walks-a-refused-run : (w : List ℕ) (vs : List (Values r)) (n p : ℕ) → readRun r w ≡ stopped vs n p → length w ≤ top → Runs.Walked r w vs (refusal-after n p (length vs))
-  reader-walks-a-refused-run w vs n p e h = Runs.stop-walked r inner w vs n p e h
+  each-part-reads : (vs : List (Values r)) → All (Right r) vs → map (readRecord r) (map (λ v. recordOf r v) vs) ≡ map (λ v. good v) vs
+  each-part-reads [] ok = refl
+  each-part-reads (v ∷ vs) ok = rw (right-is-accepted v (ok .0), each-part-reads vs (ok .1)) refl
 
-  -- "two lists of values never give the same bytes"
-  pub two-lists-differ : (us vs : List (Values r)) → All (Right r) us → All (Right r) vs → runOf r us ≡ runOf r vs → us ≡ vs
-  two-lists-differ us vs p q e = Runs.run-injective r inner us vs p q e
+  steps-through : (w : List ℕ) (vs : List (Values r)) (t : Told) → All (Right r) vs → Runs.Walked r w vs t → StepsThrough w vs t
+  steps-through w vs t ok h = (h, ap (map (readRecord r)) (h .1) ∙ each-part-reads vs ok)
+
+  -- over a run of right values the last answer is the end. No lent run has more than 2 ^ 64 - 1 bytes.
+  pub reader-steps-through : (vs : List (Values r)) → All (Right r) vs → length (runOf r vs) ≤ top → StepsThrough (runOf r vs) vs (told-none run-end)
+  reader-steps-through vs ok h = steps-through (runOf r vs) vs (told-none run-end) ok (Runs.run-walked r inner vs ok h)
+
+  -- stepping through agrees with reading whole: the end after the records of an accepted run, and of a refused one the fault after the records before it
+  abbrev pub Agrees : List ℕ → Ran (Values r) → Type 0
+  Agrees w (whole vs) = StepsThrough w vs (told-none run-end)
+  Agrees w (stopped vs n p) = StepsThrough w vs (refusal-after n p (length vs))
+
+  pub stepping-agrees : (w : List ℕ) → length w ≤ top → Agrees w (readRun r w)
+  stepping-agrees w h = go (readRun r w) refl
+    where
+      go : (x : Ran (Values r)) → readRun r w ≡ x → Agrees w x
+      go (whole vs) e = let b = Runs.run-back r w vs e in subst (λ (s : List ℕ). StepsThrough s vs (told-none run-end)) (sym (b .0)) (reader-steps-through vs (b .1) (rw (← b .0) h))
+      go (stopped vs n p) e = steps-through w vs (refusal-after n p (length vs)) (refused-run-stops w vs n p e .2) (Runs.stop-walked r inner w vs n p e h)
 
 -- "no record is the beginning of a longer one": of whichever kind the two are
 pub no-beginning : (r q : Members) (w x : List ℕ) (u : Values r) (v : Values q) → readRecord r w ≡ good u → readRecord q x ≡ good v → (rest : List ℕ) → w ++ rest ≡ x → rest ≡ []

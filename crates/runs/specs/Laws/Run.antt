@@ -3,12 +3,12 @@ use mathlib.Core.Path.{_≡_, refl, sym, ap, _∙_, subst}
 use Prim.Native.Nat.{ℕ, suc, zero, _+_, _-_, _≤_, _<_}
 use native.Mathlib.Omega.{arith}
 use mathlib.Core.Option.{none, some}
-use mathlib.Core.List.{List, [], _∷_, _++_, append-assoc, append-nil}
-use lib.ListN.{length, drop, replicate, length-append}
-use lib.Seq.{drop-at, drop-cons}
+use mathlib.Core.List.{List, [], _∷_, _++_, map, append-assoc, append-nil}
+use lib.ListN.{length, take, drop, replicate, length-append}
+use lib.Seq.{take-at, drop-at, drop-cons}
 use lib.Dec.{T, ltb, lt→ltb}
 use Rattle.terms.specs.Numbers.{largest-record, done, run-end}
-use Rattle.terms.specs.Answer.{Res, good, fault, Got, got, bind, Told, told-two, told-none}
+use Rattle.terms.specs.Answer.{Res, good, fault, Got, got, bind, Told, told-one, told-two, told-none}
 use Rattle.terms.specs.Laws.Answer.{never, pick-yes, by-bind}
 use Rattle.heads.specs.Head.{forms, tlv, octets}
 use Rattle.heads.specs.Laws.Head.{length-tlv}
@@ -16,7 +16,7 @@ use Rattle.layouts.specs.Layout.{Members, Values, All, each, encodes}
 use Rattle.layouts.specs.Whole.{sequence, recordOf, Allowed, recordAt}
 use Rattle.layouts.specs.Laws.Reading.{clears}
 use Rattle.layouts.specs.Laws.Whole.{recordAt-back, recordAt-there}
-use Rattle.runs.specs.Run.{runOf, Ran, whole, stopped, andThen, onward, runFrom, readRun, Reader, hereIn, hereAt, at, made, top, oneMore, stepAfter, stepAnswer, refusal-after}
+use Rattle.runs.specs.Run.{runOf, Ran, whole, stopped, andThen, onward, runFrom, readRun, toldRan, runAnswer, Reader, hereIn, hereAt, at, made, top, oneMore, stepAfter, stepAnswer, stepPart, refusal-after}
 
 -- a value whose record is accepted
 abbrev Accepted : (r : Members) → Values r → Type 0
@@ -90,6 +90,19 @@ module _ (r : Members) where
   pub run-back : (w : List ℕ) (vs : List (Values r)) → readRun r w ≡ whole vs → (w ≡ runOf r vs) × All (Accepted r) vs
   unfolding readRun
   run-back w vs e = runFrom-back (length w) w 0 vs (omega arith) e
+
+  -- the same by what is told of a run: as many records as the list has
+  pub run-counted : T (clears r) → (vs : List (Values r)) → All (Accepted r) vs → runAnswer r (runOf r vs) ≡ told-one done (length vs)
+  unfolding runAnswer
+  run-counted c vs ok = ap toldRan (run-there c vs ok)
+
+  pub counted-back : (w : List ℕ) (n : ℕ) → runAnswer r w ≡ told-one done n → (vs : List (Values r)) × (length vs ≡ n) × (w ≡ runOf r vs) × All (Accepted r) vs
+  unfolding runAnswer
+  counted-back w n e = go (readRun r w) refl e
+    where
+      go : (x : Ran (Values r)) → readRun r w ≡ x → toldRan x ≡ told-one done n → (vs : List (Values r)) × (length vs ≡ n) × (w ≡ runOf r vs) × All (Accepted r) vs
+      go (whole vs) f g = let b = run-back w vs f in let l : length vs ≡ n = cc in (vs, l, b .0, b .1)
+      go (stopped vs m p) f g = never (cc)
 
   -- a run that is refused: the records before the fault are read, and the reader stands at the fault
   abbrev Stops : List ℕ → ℕ → List (Values r) → ℕ → ℕ → Type 0
@@ -215,6 +228,11 @@ module _ (r : Members) where
   afterSteps zero s x = x
   afterSteps (suc k) s x = afterSteps k s (stepAfter r s x)
 
+  -- the parts of the run that it hands out in so many steps
+  unfoldable pub parts : ℕ → List ℕ → Reader → List (List ℕ)
+  parts zero s x = []
+  parts (suc k) s x = take (stepPart r s (x .position) .1) (drop (stepPart r s (x .position) .0) s) ∷ parts k s (stepAfter r s x)
+
   -- each record of a list, where it stands from `b` on
   unfoldable pub handedRecords : List (Values r) → ℕ → List Told
   handedRecords [] b = []
@@ -241,24 +259,43 @@ module _ (r : Members) where
       one-more : (n : ℕ) → n < top → oneMore n ≡ n + 1
       one-more n h = pick-yes (ltb n top) (n + 1) n (lt→ltb n top h)
 
+  -- the parts are the records' bytes
+  parts-records : T (clears r) → (s : List ℕ) (vs : List (Values r)) → All (Accepted r) vs → (b n : ℕ) (before rest : List ℕ) → s ≡ before ++ (runOf r vs ++ rest) → b ≡ length before
+      → parts (length vs) s (at b n) ≡ map (λ v. recordOf r v) vs
+  unfolding parts each stepPart
+  parts-records c s [] ok b n before rest es eb = refl
+  parts-records c s (v ∷ vs) ok b n before rest es eb =
+      let w : List ℕ = runOf r vs ++ rest in
+      let q : s ≡ before ++ (recordOf r v ++ w) = es ∙ ap (λ (y : List ℕ). before ++ y) (append-assoc (recordOf r v) (runOf r vs) rest) in
+      let here : hereAt r s b ≡ good (some (got v w (b + length (recordOf r v)))) = rw eb (here-there c s before v w (ok .0) q) in
+      let t = step-takes s (at b n) (got v w (b + length (recordOf r v))) (length (recordOf r v)) here refl in
+      let m : b + length (recordOf r v) - b ≡ length (recordOf r v) = omega arith in
+      let d : drop b s ≡ recordOf r v ++ w = ap (drop b) q ∙ drop-at before (recordOf r v ++ w) b (sym eb) in
+      let i = parts-records c s vs (ok .1) (b + length (recordOf r v)) (oneMore n) (before ++ recordOf r v) rest (q ∙ sym (append-assoc before (recordOf r v) w)) (omega (arith, length-append before (recordOf r v))) in
+      rw (here, m, d, take-at (recordOf r v) w (length (recordOf r v)) refl, t .1) (ap (λ (y : List (List ℕ)). recordOf r v ∷ y) i)
+
   -- where a step changes nothing, all that follow answer the same
   walk-stays : (s : List ℕ) (x : Reader) → stepAfter r s x ≡ x → (k : ℕ) → (steps k s x ≡ replicate k (stepAnswer r s x)) × (afterSteps k s x ≡ x)
   unfolding steps afterSteps
   walk-stays s x e zero = (refl, refl)
   walk-stays s x e (suc k) = let i = walk-stays s x e k in (ap (λ (y : List Told). stepAnswer r s x ∷ y) (rw e (i .0)), rw e (i .1))
 
-  -- the records of a list in order, each with its place, and then one answer for ever
+  -- the records of a list in order, each with its place and as a part of the run, and then one answer for ever
   abbrev pub Walked : List ℕ → List (Values r) → Told → Type 0
   Walked s vs t =
-      (k : ℕ) → (steps (length vs + k) s made ≡ handedRecords vs 0 ++ replicate k t) × (afterSteps (length vs + k) s made ≡ at (length (runOf r vs)) (length vs))
+      ((k : ℕ) → (steps (length vs + k) s made ≡ handedRecords vs 0 ++ replicate k t) × (afterSteps (length vs + k) s made ≡ at (length (runOf r vs)) (length vs)))
+      × (parts (length vs) s made ≡ map (λ v. recordOf r v) vs)
 
   walk : T (clears r) → (s : List ℕ) (vs : List (Values r)) (rest : List ℕ) → All (Accepted r) vs → s ≡ runOf r vs ++ rest → length s ≤ top → (t : Told)
       → (stepAnswer r s (at (length (runOf r vs)) (length vs)) ≡ t) × (stepAfter r s (at (length (runOf r vs)) (length vs)) ≡ at (length (runOf r vs)) (length vs)) → Walked s vs t
-  walk c s vs rest ok e h t (a, b) k =
-      let l : length s ≡ length (runOf r vs) + length rest = ap length e ∙ length-append (runOf r vs) rest in
-      let w = walk-records c s vs ok k (length vs + k) 0 0 (length (runOf r vs)) (length vs) [] rest refl e refl (omega (arith, run-some vs)) (omega arith) (omega arith) in
-      let y = walk-stays s (at (length (runOf r vs)) (length vs)) b k in
-      (w .0 ∙ ap (λ (z : List Told). handedRecords vs 0 ++ z) (rw a at (y .0)), w .1 ∙ y .1)
+  walk c s vs rest ok e h t (a, b) = (answers, parts-records c s vs ok 0 0 [] rest e refl)
+    where
+      answers : (k : ℕ) → (steps (length vs + k) s made ≡ handedRecords vs 0 ++ replicate k t) × (afterSteps (length vs + k) s made ≡ at (length (runOf r vs)) (length vs))
+      answers k =
+          let l : length s ≡ length (runOf r vs) + length rest = ap length e ∙ length-append (runOf r vs) rest in
+          let w = walk-records c s vs ok k (length vs + k) 0 0 (length (runOf r vs)) (length vs) [] rest refl e refl (omega (arith, run-some vs)) (omega arith) (omega arith) in
+          let y = walk-stays s (at (length (runOf r vs)) (length vs)) b k in
+          (w .0 ∙ ap (λ (z : List Told). handedRecords vs 0 ++ z) (rw a at (y .0)), w .1 ∙ y .1)
 
   pub run-walked : T (clears r) → (vs : List (Values r)) → All (Accepted r) vs → length (runOf r vs) ≤ top → Walked (runOf r vs) vs (told-none run-end)
   run-walked c vs ok h =
