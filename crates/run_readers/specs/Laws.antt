@@ -4,7 +4,7 @@ use Prim.Native.Nat.{ℕ, _+_, _-_, _≤_}
 use native.Mathlib.Omega.{arith}
 use mathlib.Core.Option.{Option, none, some}
 use mathlib.Core.List.{List}
-use lib.ListN.{length, drop, length-append, length-drop}
+use lib.ListN.{length, length-append, length-drop}
 use denote.Ref.{RefT}
 use Rattle.terms.specs.Answer.{Res, good, fault, Got}
 use Rattle.terms.specs.Laws.Answer.{never}

@@ -2,12 +2,12 @@
 use mathlib.Core.Path.{_≡_, refl, sym, ap, _∙_}
 use Prim.Native.Nat.{ℕ, suc, zero, _+_, _-_, _≤_, _<_}
 use native.Mathlib.Omega.{arith}
-use mathlib.Core.Option.{none, some}
-use mathlib.Core.List.{List, [], _∷_, _++_}
+use mathlib.Core.Option.{some}
+use mathlib.Core.List.{List, [], _∷_}
 use lib.ListN.{length, drop, length-append, length-drop, drop-of-length-le}
 use lib.Seq.{take-length, drop-at, drop-drop, slice}
 use Rattle.terms.specs.Numbers.{largest-record}
-use Rattle.terms.specs.Answer.{Res, good, fault, Got, bind, pick, Told}
+use Rattle.terms.specs.Answer.{Res, good, fault, Got, bind}
 use Rattle.terms.specs.Laws.Answer.{never, by-bind, pick-lt, pick-ge}
 use Rattle.heads.specs.declared.Step.{Step}
 use Rattle.heads.specs.declared.Step.the-variants.{Next, Refused}
@@ -18,9 +18,8 @@ use Rattle.layouts.specs.Laws.Scan.{record-read}
 use Rattle.layouts.specs.Laws.Scan as Scan
 use Rattle.walks.specs.Walk.{recordWalk}
 use Rattle.entries.specs.Laws.{answers}
-use Rattle.runs.specs.Run.{Ran, whole, stopped, andThen, onward, runFrom, readRun, runAnswer, hereIn, hereAt, at, top, oneMore, stepAnswer, stepAfter, held, toldStepped, toldCounted, toldRan}
+use Rattle.runs.specs.Run.{Ran, whole, stopped, andThen, onward, runFrom, readRun, runAnswer, hereIn, hereAt, at, top, oneMore, stepAnswer, stepAfter, toldStepped, toldCounted, toldRan}
 use Rattle.runs.specs.Laws.Run.{enough, record-some, here-end, here-inside, here-back, step-ends, step-faults}
-use Rattle.runs.specs.declared.Stepped.{Stepped}
 use Rattle.runs.specs.declared.Stepped.the-variants.{Record, End, Refused as StepRefused}
 use Rattle.runs.specs.declared.Counted.the-variants.{Records, Refused as RunRefused}
 use Rattle.run_walks.specs.Walk.{runAt, toldBehind}

@@ -32,7 +32,6 @@ use denote.Ref.{now}
 use denote.Signature.{namedLft}
 use denote.Slice.{sliceVal, ShrSlice}
 use denote.Steps.{only, owned, peeks, heard, nothing}
-use denote.Enum.Laws as EL
 use denote.Struct.Declared.{Declared}
 use denote.Struct.Laws as LL
 use denote.Struct.Rest.{all-own, ownAt, rest, own-open, own-out, own-shut}
@@ -81,11 +80,11 @@ module _ {M : Type 1} (𝓤 : URA M) (H : Heap 𝓤) (A : Atoms 𝓤) (W : Given
   abbrev mach : Val
   mach = T′.lowered d
 
-  -- the machine value of src
+  -- the machine value of the run
   abbrev v : Val
   v = sliceVal (d .run .ptr) (length (d .run .now))
 
-  -- the reader before the step, and what the callee says of its result
+  -- what the callee says of its result
   abbrev Said : Moved → Type 0
   Said r =
       (toldStepped (r .answer) ≡ stepAnswer signature (now (d .run)) (at (d .position) (d .handed)))
