@@ -168,7 +168,7 @@ fn print_refused(number: u8, place: usize) {
 // A value.
 fn print_value(v: i64) {
     print(b"VALUE ");
-    let n = number(&integers::eight(v), 8);
+    let n = number(&numerals::eight(v), 8);
     if v < 0 {
         print(b"-");
         io::print_decimal(STDOUT_FILENO, std::num::wrapping_sub_u64(0, n));
@@ -410,11 +410,11 @@ fn answer_field(s: &[u8], x: Record, code: u8, index: usize) -> bool {
         Wanted::ListKind => print_integer(values::list_kind(s, x)),
         Wanted::Width => print_integer(values::width(s, x)),
         Wanted::Height => print_integer(values::height(s, x)),
-        Wanted::SealCritical => print_critical(values::seal_custom_critical(s, x, index)),
-        Wanted::SignedCritical => print_critical(values::signed_custom_critical(s, index)),
-        Wanted::Listed => print_items(values::listed_count(s, x)),
-        Wanted::SealItems => print_items(values::seal_custom_count(s, x)),
-        Wanted::SignedItems => print_items(values::signed_custom_count(s)),
+        Wanted::SealCritical => print_critical(lists::seal_custom_critical(s, x, index)),
+        Wanted::SignedCritical => print_critical(lists::signed_custom_critical(s, index)),
+        Wanted::Listed => print_items(lists::listed_count(s, x)),
+        Wanted::SealItems => print_items(lists::seal_custom_count(s, x)),
+        Wanted::SignedItems => print_items(lists::signed_custom_count(s)),
         Wanted::Nothing => false,
     }
 }

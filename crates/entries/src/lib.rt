@@ -1,11 +1,11 @@
 // The first step into an item: a primitive item that is read and noted, and the head of a list.
 use heads::Seen;
-use items::Tag;
 use primitives::Primitive;
+use tags::Tag;
 use terms::Field;
 use terms::NO_ITEM;
 ghost use mathlib.Core.Path.{_≡_};
-ghost use Rattle.items.specs.Scan.{tagByte};
+ghost use Rattle.tags.specs.Tag.{tagByte};
 ghost use Rattle.primitives.specs.Primitive.{leafOf};
 ghost use Rattle.entries.specs.Entry.{leafWalk, listHeadAt};
 

@@ -1,39 +1,19 @@
-// An item's head: its tag and its length, and where its content lies; and what stands before and behind an item.
+// An item's head: its tag and its length, and where its content lies.
 ghost use mathlib.Core.Path.{_≡_};
 ghost use Prim.Native.Nat.{_+_, _≤_, _<_};
 ghost use lib.ListN.{length};
-ghost use Rattle.items.specs.Scan.{tagByte, Tells, lengthAt, openingAt};
-ghost use Rattle.heads.specs.Scan.{headAt, outermostAt, pastOf, beginsAt, closeAt};
-ghost use Rattle.items.specs.Laws.Scan.{roomAt};
+ghost use Rattle.items.specs.Scan.{lengthAt, openingAt};
+ghost use Rattle.tags.specs.Tag.{tagByte};
+ghost use Rattle.heads.specs.Scan.{headAt, outermostAt};
+ghost use Rattle.items.specs.Laws.{roomAt};
 use heads::Seen;
-use heads::Step;
+use tags::Tag;
+use tags::Tagged;
 use terms::BAD_LENGTH;
 use terms::ITEM_MISSING;
-use terms::LEFT_OVER;
 use terms::OTHER_TAG;
 use terms::PAST_END;
 use terms::TOO_LARGE;
-
-// The tags of the rules.
-pub enum Tag {
-    Boolean,
-    Integer,
-    BitString,
-    OctetString,
-    Identifier,
-    Utf8String,
-    PrintableString,
-    Ia5String,
-    Time,
-    Sequence,
-    Context0,
-}
-
-// What a tag byte is: one of the rules' tags, or another.
-enum Tagged {
-    Known(Tag),
-    Other,
-}
 
 // How a length is spelled: in its one byte, or in one or two bytes after 81 or 82.
 enum Form {
@@ -57,45 +37,6 @@ enum Length {
 enum Opening {
     Opened { header: usize, content: usize },
     Refused(u8, usize),
-}
-
-// The byte of a tag.
-pub fn tag_byte(t: Tag) -> u8
-    ensures { λ r. ⌜ r ≡ tagByte t ⌝ }
-{
-    match t {
-        Tag::Boolean => 0x01,
-        Tag::Integer => 0x02,
-        Tag::BitString => 0x03,
-        Tag::OctetString => 0x04,
-        Tag::Identifier => 0x06,
-        Tag::Utf8String => 0x0c,
-        Tag::PrintableString => 0x13,
-        Tag::Ia5String => 0x16,
-        Tag::Time => 0x18,
-        Tag::Sequence => 0x30,
-        Tag::Context0 => 0xa0,
-    }
-}
-
-// The tag of a byte.
-fn tag_of(b: u8) -> Tagged
-    ensures { λ r. ⌜ Tells b r ⌝ }
-{
-    match b {
-        0x01 => Tagged::Known(Tag::Boolean),
-        0x02 => Tagged::Known(Tag::Integer),
-        0x03 => Tagged::Known(Tag::BitString),
-        0x04 => Tagged::Known(Tag::OctetString),
-        0x06 => Tagged::Known(Tag::Identifier),
-        0x0c => Tagged::Known(Tag::Utf8String),
-        0x13 => Tagged::Known(Tag::PrintableString),
-        0x16 => Tagged::Known(Tag::Ia5String),
-        0x18 => Tagged::Known(Tag::Time),
-        0x30 => Tagged::Known(Tag::Sequence),
-        0xa0 => Tagged::Known(Tag::Context0),
-        _ => Tagged::Other,
-    }
 }
 
 // A byte as a length.
@@ -158,10 +99,10 @@ fn open(s: &[u8], tag: Tag, at: usize, stop: usize) -> Opening
     if stop <= at {
         return Opening::Refused(ITEM_MISSING, at);
     }
-    let Tagged::Known(found) = tag_of(s[at]) else {
+    let Tagged::Known(found) = tags::tag_of(s[at]) else {
         return Opening::Refused(OTHER_TAG, at);
     };
-    if tag_byte(found) != tag_byte(tag) {
+    if tags::tag_byte(found) != tags::tag_byte(tag) {
         return Opening::Refused(OTHER_TAG, at);
     }
     let Length::Spelled {
@@ -221,37 +162,4 @@ pub fn outermost(s: &[u8], most: usize, tag: Tag, at: usize, end: usize) -> Seen
         }
         Opening::Refused(number, place) => Seen::Refused(number, place),
     }
-}
-
-// Where what follows an item starts, or its refusal.
-pub fn past(x: Seen) -> Step
-    ensures { λ r. ⌜ r ≡ pastOf x ⌝ }
-{
-    match x {
-        Seen::Item { start: _, end } => Step::Next(end),
-        Seen::Refused(number, place) => Step::Refused(number, place),
-    }
-}
-
-// Whether an item of a tag begins here: its tag alone makes an optional item present.
-pub fn begins(s: &[u8], tag: Tag, at: usize, end: usize) -> bool
-    ensures { λ r. ⌜ r ≡ beginsAt (tagByte tag) (now (s .entry)) at end ⌝ }
-{
-    if end <= at {
-        return false;
-    }
-    if s.len() <= at {
-        return false;
-    }
-    s[at] == tag_byte(tag)
-}
-
-// The end of what stands in a tag: 5 at the first byte left over.
-pub fn close(at: usize, end: usize) -> Step
-    ensures { λ r. ⌜ r ≡ closeAt at end ⌝ }
-{
-    if at < end {
-        return Step::Refused(LEFT_OVER, at);
-    }
-    Step::Next(end)
 }

@@ -20,8 +20,8 @@ use Rattle.contents.specs.Leaves.{Leaf, ruleOf, bitString, Known, only}
 use Rattle.contents.specs.Scan.{checkedAt, behindAt, contentAt}
 use Rattle.contents.specs.declared.Checked.{Checked}
 use Rattle.contents.specs.declared.Checked.the-variants.{Fine, Wrong}
-use Rattle.items.specs.declared.Tag.{Tag}
-use Rattle.items.specs.Scan.{tagByte}
+use Rattle.tags.specs.declared.Tag.{Tag}
+use Rattle.tags.specs.Tag.{tagByte}
 use Rattle.layouts.specs.Scan.{judgedAt, leafAt}
 use Rattle.primitives.specs.declared.Content.{Content}
 use Rattle.primitives.specs.declared.Content.the-variants as content

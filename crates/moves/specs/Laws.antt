@@ -13,8 +13,8 @@ use Rattle.terms.specs.declared.Field.{Field}
 use Rattle.terms.specs.Answer.{pick}
 use Rattle.terms.specs.Laws.Answer.{never, test}
 use Rattle.heads.specs.Head.{forms, octets, spell}
-use Rattle.items.specs.declared.Tag.{Tag}
-use Rattle.items.specs.Scan.{tagByte}
+use Rattle.tags.specs.declared.Tag.{Tag}
+use Rattle.tags.specs.Tag.{tagByte}
 use Rattle.layouts.specs.Layout.{Item, node, list, wrap, Members, tagOf}
 use Rattle.primitives.specs.declared.Content.{Content}
 use Rattle.primitives.specs.declared.Primitive.{Primitive}

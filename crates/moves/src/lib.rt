@@ -1,5 +1,4 @@
 // One translator over the table of layouts: an item at a position of a source, a record or a sheet, stored in the destination's form.
-use items::Tag;
 use pieces::Moved;
 use rows::MEMBERS;
 use rows::Member;
@@ -7,8 +6,9 @@ use sides::Side;
 use structures::Build;
 use structures::Row;
 use structures::Structure;
+use tags::Tag;
 ghost use mathlib.Core.Path.{_≡_};
-ghost use Rattle.items.specs.Scan.{tagByte};
+ghost use Rattle.tags.specs.Tag.{tagByte};
 ghost use Rattle.structures.specs.Structure.{rowOf, layoutOf};
 ghost use Rattle.sides.specs.Move.{move as moveItem, moves};
 ghost use Rattle.pieces.specs.Piece.{wrote};
@@ -84,7 +84,7 @@ fn held(
     }
     let mut none = [0u8; 0];
     let n = content(s, from, to, x, h.count, h.start, h.end, &mut none, 0);
-    let o = pieces::front(dst, pos, to, t, listed, n.items, n.to);
+    let o = fronts::front(dst, pos, to, t, listed, n.items, n.to);
     if dst.len() <= o {
         return Moved {
             next: sources::after(from, h.end, n.next),
@@ -192,7 +192,7 @@ fn member(
         Member::Maybe(_, x) => {
             let h = sources::present(s, from, structures::tag_of(x), at, end);
             let there = h.there;
-            let o = pieces::mark(dst, pos, to, there);
+            let o = fronts::mark(dst, pos, to, there);
             if there {
                 return item(s, from, to, x, h.start, end, dst, o);
             }
@@ -211,7 +211,7 @@ fn member(
             second,
         } => {
             let m = pieces::leaf(s, from, to, primitive, at, end, dst, pos);
-            if pieces::is_content(s, from, primitive, content, at, end) {
+            if spans::is_content(s, from, primitive, content, at, end) {
                 return item(s, from, to, first, m.next, end, dst, m.to);
             }
             item(s, from, to, second, m.next, end, dst, m.to)

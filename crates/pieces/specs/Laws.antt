@@ -9,54 +9,25 @@ use lib.Seq.{slice}
 use borrow.Author.Tests.{lt-ltb, le-ltb}
 use Rattle.terms.specs.Answer.{pick}
 use Rattle.terms.specs.Laws.Answer.{never}
-use Rattle.heads.specs.Head.{forms, octets, tlv}
+use Rattle.heads.specs.Head.{tlv}
 use Rattle.contents.specs.Integer.{sign, signOf, stretch}
 use Rattle.contents.specs.Leaves as leaves
 use Rattle.contents.specs.Leaves.{Holding, Leaf, sectionOf}
-use Rattle.items.specs.declared.Tag.{Tag}
-use Rattle.items.specs.Scan.{tagByte}
+use Rattle.tags.specs.declared.Tag.{Tag}
+use Rattle.tags.specs.Tag.{tagByte}
 use Rattle.layouts.specs.Layout.{encodeLeaf, critical}
 use Rattle.layouts.specs.Sheet.{count, section, criticalByte}
-use Rattle.primitives.specs.declared.Content.{Content}
 use Rattle.primitives.specs.declared.Primitive.{Primitive}
 use Rattle.primitives.specs.declared.Primitive.the-variants as primitive
 use Rattle.primitives.specs.declared.Word.{Word}
 use Rattle.primitives.specs.declared.Word.the-variants as word
-use Rattle.primitives.specs.Primitive.{leafOf, knownOf, isNumber, says}
+use Rattle.primitives.specs.Primitive.{leafOf, knownOf, isNumber}
 use Rattle.sides.specs.declared.Side.{Side}
 use Rattle.sides.specs.declared.Side.the-variants as side
-use Rattle.sides.specs.Move.{spanAt, valueAt, flagAt, knownAt, leafOut, front, mark, flagOut, knownOut, moveLeaf, moveKnown, moveFlag}
+use Rattle.sides.specs.Move.{spanAt, valueAt, flagAt, knownAt, leafOut, front, flagOut, knownOut, moveLeaf, moveKnown, moveFlag}
 use Rattle.stores.specs.Store.{puts}
 use Rattle.stores.specs.Laws.Store.{puts-then, puts-none}
 use Rattle.pieces.specs.Piece.{extension, padding, wrote}
-
--- ---- what stands before other items
-
-module _ (to : Side) (t : Tag) (listed : Bool) (k n : ℕ) (d : List ℕ) (o : ℕ) where
-  pub front-record : (w : ℕ × List ℕ) → to ≡ side.Record → w ≡ puts (tagByte t ∷ octets forms n) d o → w ≡ puts (front to (tagByte t) listed k n) d o
-  unfolding front
-  front-record w i g = rw i g
-
-  pub front-list : (w : ℕ × List ℕ) → to ≡ side.Sheet → listed ≡ true → w ≡ puts (count k) d o → w ≡ puts (front to (tagByte t) listed k n) d o
-  unfolding front
-  front-list w i j g = rw (i, j) g
-
-  pub front-none : to ≡ side.Sheet → listed ≡ false → (o, d) ≡ puts (front to (tagByte t) listed k n) d o
-  unfolding front
-  front-none i j = rw (i, j) (puts-none d o)
-
-module _ (to : Side) (b : Bool) (d : List ℕ) (o : ℕ) where
-  pub mark-none : to ≡ side.Record → (o, d) ≡ puts (mark to b) d o
-  unfolding mark
-  mark-none i = rw i (puts-none d o)
-
-  pub mark-there : (w : ℕ × List ℕ) → to ≡ side.Sheet → b ≡ true → w ≡ puts (count 1) d o → w ≡ puts (mark to b) d o
-  unfolding mark
-  mark-there w i j g = rw (i, j) g
-
-  pub mark-gone : (w : ℕ × List ℕ) → to ≡ side.Sheet → b ≡ false → w ≡ puts (count 0) d o → w ≡ puts (mark to b) d o
-  unfolding mark
-  mark-gone w i j g = rw (i, j) g
 
 -- ---- what stands before a value
 
@@ -138,10 +109,6 @@ pub leaf-wrote : (s : List ℕ) (from to : Side) (p : Primitive) (at e : ℕ) (d
     → (o₁, d₁) ≡ puts (leafOut to (leafOf p) w) d o → (z, o₁, d₁) ≡ wrote (moveLeaf from to (leafOf p) s at e) d o
 unfolding wrote puts moveLeaf valueAt
 leaf-wrote s from to p at e d o a z w o₁ d₁ i j g = rw (← i, ← j) (ap (λ (x : ℕ × List ℕ). (z, x .0, x .1)) g)
-
-pub content-says : (s : List ℕ) (from : Side) (p : Primitive) (c : Content) (at e a z : ℕ) (r : Bool) → (a, z) ≡ spanAt from (leafOf p) s at e → r ≡ says c (slice a z s) → r ≡ says c (valueAt from (leafOf p) s at e)
-unfolding valueAt
-content-says s from p c at e a z r i g = rw (← i) g
 
 -- ---- a flag
 

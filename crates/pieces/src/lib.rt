@@ -1,6 +1,4 @@
-// What has no parts, from a source to a destination: a primitive item, a flag, a known member, and what stands before other items.
-use items::Tag;
-use primitives::Content;
+// What has no parts, from a source to a destination: a primitive item, a flag and a known member.
 use primitives::Primitive;
 use primitives::Word;
 use sides::Side;
@@ -8,9 +6,8 @@ ghost use mathlib.Core.Path.{_≡_};
 ghost use Prim.Native.Nat.{_-_, _≤_};
 ghost use lib.ListN.{replicate};
 ghost use Rattle.contents.specs.Integer.{signOf};
-ghost use Rattle.items.specs.Scan.{tagByte};
-ghost use Rattle.primitives.specs.Primitive.{leafOf, knownOf, says};
-ghost use Rattle.sides.specs.Move.{valueAt, leafOut, front as frontOf, mark as markOf, flagOut, knownOut, moveLeaf, moveKnown, moveFlag};
+ghost use Rattle.primitives.specs.Primitive.{leafOf, knownOf};
+ghost use Rattle.sides.specs.Move.{leafOut, flagOut, knownOut, moveLeaf, moveKnown, moveFlag};
 ghost use Rattle.stores.specs.Store.{puts};
 ghost use Rattle.pieces.specs.Piece.{padding, wrote};
 
@@ -24,44 +21,6 @@ pub struct Moved {
 struct Padding {
     byte: u8,
     times: usize,
-}
-
-// What stands before the items in an item, `items` of them and `n` bytes together; `listed`: it is a list.
-pub fn front(
-    dst: &mut [u8],
-    pos: usize,
-    to: Side,
-    t: Tag,
-    listed: bool,
-    items: usize,
-    n: usize,
-) -> usize
-    ensures { λ r. ⌜ (r, now (dst .exit)) ≡ puts (frontOf to (tagByte t) listed items n) (now (dst .entry)) pos ⌝ }
-{
-    match to {
-        Side::Record => stores::head(dst, pos, t, n),
-        Side::Sheet => {
-            if listed {
-                return stores::count(dst, pos, items);
-            }
-            pos
-        }
-    }
-}
-
-// What stands before an optional item, or in its stead: in a sheet 1 or 0.
-pub fn mark(dst: &mut [u8], pos: usize, to: Side, there: bool) -> usize
-    ensures { λ r. ⌜ (r, now (dst .exit)) ≡ puts (markOf to there) (now (dst .entry)) pos ⌝ }
-{
-    match to {
-        Side::Record => pos,
-        Side::Sheet => {
-            if there {
-                return stores::count(dst, pos, 1);
-            }
-            stores::count(dst, pos, 0)
-        }
-    }
 }
 
 // The byte that may stand before a number without changing it.
@@ -114,7 +73,7 @@ fn value(dst: &mut [u8], pos: usize, to: Side, p: Primitive, w: &[u8]) -> usize
 {
     let b = padding_of(to, p, w);
     let n = b.times + w.len();
-    let o = front(dst, pos, to, primitives::tag_of(p), true, n, n);
+    let o = fronts::front(dst, pos, to, primitives::tag_of(p), true, n, n);
     let q = stores::repeated(dst, o, b.byte, b.times);
     stores::copied(dst, q, w)
 }
@@ -132,7 +91,7 @@ pub fn leaf(
 ) -> Moved
     ensures { λ r. ⌜ (r .next, r .to, now (dst .exit)) ≡ wrote (moveLeaf from to (leafOf p) (now (s .entry)) at end) (now (dst .entry)) pos ⌝ }
 {
-    let v = sources::value(s, from, p, at, end);
+    let v = spans::value(s, from, p, at, end);
     let o = value(dst, pos, to, p, windows::window(s, v.start, v.end));
     Moved { next: v.end, to: o }
 }
@@ -169,7 +128,7 @@ pub fn flag(
 ) -> Moved
     ensures { λ r. ⌜ (r .next, r .to, now (dst .exit)) ≡ wrote (moveFlag from to (now (s .entry)) at end) (now (dst .entry)) pos ⌝ }
 {
-    let v = sources::flag(s, from, at, end);
+    let v = spans::flag(s, from, at, end);
     let o = flag_out(dst, pos, to, v.there);
     Moved {
         next: v.start,
@@ -203,15 +162,7 @@ pub fn known(
 ) -> Moved
     ensures { λ r. ⌜ (r .next, r .to, now (dst .exit)) ≡ wrote (moveKnown from to (knownOf w) (now (s .entry)) at end) (now (dst .entry)) pos ⌝ }
 {
-    let n = sources::known(s, from, w, at, end);
+    let n = spans::known(s, from, w, at, end);
     let o = known_out(dst, pos, to, w);
     Moved { next: n, to: o }
-}
-
-// Whether the value that stands here is the content that is named.
-pub fn is_content(s: &[u8], from: Side, p: Primitive, c: Content, at: usize, end: usize) -> bool
-    ensures { λ r. ⌜ r ≡ says c (valueAt from (leafOf p) (now (s .entry)) at end) ⌝ }
-{
-    let v = sources::value(s, from, p, at, end);
-    leaves::is_content(s, c, v.start, v.end)
 }

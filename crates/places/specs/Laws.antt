@@ -1,6 +1,6 @@
--- A name's slot, and the steps of noting a field. Assumes nothing.
-use mathlib.Core.Path.{_≡_, refl, sym, ap, _∙_}
-use Prim.Native.Nat.{ℕ, _+_, _-_, _*_, _<_, _≤_}
+-- The steps of noting a field. Assumes nothing.
+use mathlib.Core.Path.{_≡_, refl, sym}
+use Prim.Native.Nat.{ℕ, _+_, _-_, _<_, _≤_}
 use native.Mathlib.Omega.{arith}
 use mathlib.Core.Bool.{Bool, true, false, _&&_, not}
 use mathlib.Core.List.{List, [], _∷_}
@@ -8,17 +8,10 @@ use lib.ListN.{length, getD, drop, List·getD-eq-default}
 use lib.Dec.{T, eqb, ltb, ltb→lt}
 use borrow.Author.Tests.{eq-eqb, ne-eqb, lt-ltb, le-ltb}
 use Rattle.terms.specs.declared.Field.{Field}
-use Rattle.terms.specs.Names.{code, names-count, nameOf}
-use Rattle.terms.specs.Laws.Names.{code-name}
 use Rattle.terms.specs.Answer.{pick}
 use Rattle.terms.specs.Laws.Answer.{and-l, and-r}
 use Rattle.layouts.specs.Places.{wanted-at, wanted, under, slot}
 use Rattle.layouts.specs.Marks.{free, filled, noted}
-
--- a name is numbered by its place among the names
-pub slot-name : (f : Field) (n r : ℕ) → f ≡ nameOf n → n < names-count → r ≡ 4 * n → r ≡ slot f
-unfolding slot
-slot-name f n r h k q = q ∙ ap (λ (z : ℕ). 4 * z) (sym (ap code h ∙ code-name n k))
 
 -- ---- noting a field
 

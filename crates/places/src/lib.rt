@@ -1,5 +1,6 @@
 // The table of places: under each name whether the field is there, where it starts, how many bytes it has, and of a list how many items;
 // after them the index of the item that is wanted of a list.
+use slots::NUMBERS_EACH;
 use terms::Field;
 use terms::NAMES;
 ghost use mathlib.Core.Path.{_≡_};
@@ -11,10 +12,6 @@ ghost use lib.Dec.{eqb};
 ghost use Rattle.layouts.specs.Places.{table-size, wanted, slot, under as numbersUnder};
 ghost use Rattle.layouts.specs.Laws.Places.{blank as blankTable};
 ghost use Rattle.layouts.specs.Marks.{free, filled, noted};
-ghost use Rattle.terms.specs.Names.{names-count, nameOf};
-
-// The numbers under a name.
-const NUMBERS_EACH: usize = 4;
 
 // Where the index that is wanted stands, behind the numbers under the names.
 const WANTED_AT: usize = NUMBERS_EACH * NAMES;
@@ -28,64 +25,6 @@ pub struct Place {
     pub start: usize,
     pub length: usize,
     pub items: usize,
-}
-
-// A name's number.
-fn number_of(f: Field) -> usize
-    ensures { λ r. ⌜ (f ≡ nameOf r) × (r < names-count) ⌝ }
-{
-    match f {
-        Field::SealInformation => 0,
-        Field::Header => 1,
-        Field::Vendor => 2,
-        Field::SealId => 3,
-        Field::Property => 4,
-        Field::SealType => 5,
-        Field::SealName => 6,
-        Field::ListKind => 7,
-        Field::CertificateList => 8,
-        Field::ListedCertificate => 9,
-        Field::ListedEntry => 10,
-        Field::ListedType => 11,
-        Field::ListedDigest => 12,
-        Field::Created => 13,
-        Field::Start => 14,
-        Field::End => 15,
-        Field::Picture => 16,
-        Field::PictureType => 17,
-        Field::PictureData => 18,
-        Field::Width => 19,
-        Field::Height => 20,
-        Field::SealCustomData => 21,
-        Field::SealCustomItem => 22,
-        Field::SealCustomId => 23,
-        Field::SealCustomCritical => 24,
-        Field::SealCustomValue => 25,
-        Field::MakerCertificate => 26,
-        Field::SealAlgorithm => 27,
-        Field::SealSignedValue => 28,
-        Field::SignedPart => 29,
-        Field::Seal => 30,
-        Field::SigningTime => 31,
-        Field::OriginalDigest => 32,
-        Field::PropertyText => 33,
-        Field::SignedCustomData => 34,
-        Field::SignedCustomItem => 35,
-        Field::SignedCustomId => 36,
-        Field::SignedCustomCritical => 37,
-        Field::SignedCustomValue => 38,
-        Field::SignerCertificate => 39,
-        Field::SignatureAlgorithm => 40,
-        Field::SignatureValue => 41,
-        Field::Stamp => 42,
-    }
-}
-
-// Where a name's four numbers start.
-fn slot_of(f: Field) -> usize
-    ensures { λ r. ⌜ (r ≡ slot f) × (r < table-size) ⌝ }
-{
-    NUMBERS_EACH * number_of(f)
 }
 
 // How far it is from a start to an end; none if the end is before it.
@@ -145,7 +84,7 @@ fn takes(places: &[usize], n: usize, index: usize) -> bool
 pub fn note(places: &mut [usize], f: Field, index: usize, start: usize, end: usize, items: usize)
     ensures { λ _. ⌜ now (places .exit) ≡ noted f index start end items (now (places .entry)) ⌝ }
 {
-    let n = slot_of(f);
+    let n = slots::slot_of(f);
     if !takes(places, n, index) {
         return;
     }
@@ -167,7 +106,7 @@ pub fn under(places: &[usize], f: Field) -> Place
     ensures { λ r. ⌜ r .there ≡ not (eqb (getD (now (places .entry)) (slot f) 0) 0) ⌝ }
     ensures { λ r. ⌜ r .start ∷ r .length ∷ r .items ∷ [] ≡ drop 1 (numbersUnder f (now (places .entry))) ⌝ }
 {
-    let n = slot_of(f);
+    let n = slots::slot_of(f);
     Place {
         there: number_at(places, n) != 0,
         start: number_at(places, n + 1),

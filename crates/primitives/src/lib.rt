@@ -1,10 +1,10 @@
 // The primitive items of the rules by name: what each holds, its tag, and what stands before its value.
-use items::Tag;
+use tags::Tag;
 ghost use mathlib.Core.Path.{_≡_};
 ghost use Prim.Native.Nat.{_≤_};
 ghost use lib.ListN.{length};
 ghost use Rattle.contents.specs.Leaves.{only};
-ghost use Rattle.items.specs.Scan.{tagByte};
+ghost use Rattle.tags.specs.Tag.{tagByte};
 ghost use Rattle.primitives.specs.Primitive.{leafOf, knownOf, isNumber};
 
 // What a primitive item holds; `Any`: it may have no bytes. The header's name and the version have one content only.

@@ -36,7 +36,7 @@ fn whole(s: &[u8], x: Row, most: usize, places: &mut [usize]) -> Step
     let Step::Next(q) = r else {
         return r;
     };
-    items::close(q, s.len())
+    edges::close(q, s.len())
 }
 
 // A record of at most `most` bytes, and nothing noted of it.

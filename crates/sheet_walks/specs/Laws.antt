@@ -19,7 +19,7 @@ use Rattle.heads.specs.declared.Seen.{Seen}
 use Rattle.heads.specs.declared.Seen.the-variants.{Item as At, Refused as Bad}
 use Rattle.heads.specs.declared.Step.{Step}
 use Rattle.heads.specs.declared.Step.the-variants.{Next, Refused}
-use Rattle.items.specs.declared.Tag.{Tag}
+use Rattle.tags.specs.declared.Tag.{Tag}
 use Rattle.contents.specs.Leaves.{Leaf}
 use Rattle.layouts.specs.Layout.{Item, Members}
 use Rattle.layouts.specs.Whole.{acceptSheet}
@@ -34,7 +34,7 @@ use Rattle.primitives.specs.declared.Content.{Content}
 use Rattle.primitives.specs.declared.Primitive.{Primitive}
 use Rattle.primitives.specs.declared.Word.{Word}
 use Rattle.primitives.specs.Primitive.{leafOf, says}
-use Rattle.sections.specs.Laws.{fits-count}
+use Rattle.counts.specs.Laws.{fits-count}
 use Rattle.structures.specs.declared.Row.{Row}
 use Rattle.structures.specs.declared.Structure.{Structure}
 use Rattle.structures.specs.declared.Build.{Build}

@@ -1,10 +1,10 @@
 // One reader of sheets over the table of layouts.
+use counts::COUNT_BYTES;
 use heads::Seen;
 use heads::Step;
 use layouts::Tally;
 use rows::MEMBERS;
 use rows::Member;
-use sections::COUNT_BYTES;
 use structures::Build;
 use structures::Row;
 use structures::Structure;
@@ -23,7 +23,7 @@ fn item(s: &[u8], x: Structure, at: usize, end: usize) -> Step
 {
     let b = structures::build_of(x);
     match b {
-        Build::Leaf(primitive) => items::past(sections::leaf(s, primitive, at, end)),
+        Build::Leaf(primitive) => edges::past(sections::leaf(s, primitive, at, end)),
         Build::Node(_, members) => row(s, members, at, end),
         Build::List {
             tag: _,
@@ -32,7 +32,7 @@ fn item(s: &[u8], x: Structure, at: usize, end: usize) -> Step
             name: _,
             each,
         } => {
-            let c = sections::list_count(s, empty, most, at, end);
+            let c = counts::list_count(s, empty, most, at, end);
             match c {
                 Tally::Refused(number, place) => Step::Refused(number, place),
                 Tally::Items(n) => list(s, each, n, at + COUNT_BYTES, end),
@@ -67,10 +67,10 @@ fn member(s: &[u8], m: Member, at: usize, end: usize) -> Step
     match m {
         Member::Blank => Step::Next(at),
         Member::Known(_) => Step::Next(at),
-        Member::Leaf(_, primitive) => items::past(sections::leaf(s, primitive, at, end)),
+        Member::Leaf(_, primitive) => edges::past(sections::leaf(s, primitive, at, end)),
         Member::Part(_, x) => item(s, x, at, end),
         Member::Maybe(_, x) => {
-            let c = sections::count(s, at, end);
+            let c = counts::count(s, at, end);
             match c {
                 Tally::Refused(number, place) => Step::Refused(number, place),
                 Tally::Items(n) => {
@@ -96,7 +96,7 @@ fn member(s: &[u8], m: Member, at: usize, end: usize) -> Step
         } => {
             let h = sections::leaf(s, primitive, at, end);
             let Seen::Item { start: a, end: z } = h else {
-                return items::past(h);
+                return edges::past(h);
             };
             if leaves::is_content(s, content, a, z) {
                 return item(s, first, z, end);

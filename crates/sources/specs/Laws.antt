@@ -1,30 +1,21 @@
 -- The steps in a source, a law for each case. Assumes nothing.
-use mathlib.Core.Path.{_≡_, ap, _∙_}
+use mathlib.Core.Path.{_≡_}
 use Prim.Native.Nat.{ℕ, _+_}
 use mathlib.Core.Bool.{Bool, true, false, not}
-use mathlib.Core.List.{List, [], _∷_}
-use lib.ListN.{length}
-use lib.Seq.{slice}
+use mathlib.Core.List.{List}
 use lib.Dec.{ltb, eqb}
-use Rattle.terms.specs.Answer.{pick, same}
 use Rattle.heads.specs.Scan.{headAt, beginsAt}
 use Rattle.heads.specs.declared.Seen.{Seen}
 use Rattle.heads.specs.declared.Seen.the-variants.{Item as At, Refused as Bad}
-use Rattle.items.specs.declared.Tag.{Tag}
-use Rattle.items.specs.declared.Tag.the-variants as tag
-use Rattle.items.specs.Scan.{tagByte}
-use Rattle.contents.specs.Leaves.{Leaf, only}
+use Rattle.tags.specs.declared.Tag.{Tag}
+use Rattle.tags.specs.Tag.{tagByte}
 use Rattle.layouts.specs.Sheet.{count-bytes}
-use Rattle.layouts.specs.SheetScan.{countAt, sectionAt, valueAt as inSection}
+use Rattle.layouts.specs.SheetScan.{countAt}
 use Rattle.layouts.specs.declared.Tally.{Tally}
 use Rattle.layouts.specs.declared.Tally.the-variants.{Items, Refused as Uncounted}
-use Rattle.primitives.specs.declared.Primitive.{Primitive}
-use Rattle.primitives.specs.declared.Primitive.the-variants as primitive
-use Rattle.primitives.specs.declared.Word.{Word}
-use Rattle.primitives.specs.Primitive.{leafOf, knownOf}
 use Rattle.sides.specs.declared.Side.{Side}
 use Rattle.sides.specs.declared.Side.the-variants as side
-use Rattle.sides.specs.Move.{spanOf, spanAt, valueAt, countOf, openAt, more, presentAt, flagAt, knownAt}
+use Rattle.sides.specs.Move.{spanOf, countOf, openAt, more, presentAt}
 
 -- ---- a count
 
@@ -34,33 +25,6 @@ module _ (s : List ℕ) (p e : ℕ) (c : Tally) (j : c ≡ countAt s p e) where
 
   pub items-there : (n : ℕ) → c ≡ Items n → (n, p + count-bytes) ≡ countOf p (countAt s p e)
   items-there n h = rw (← j, h)
-
--- ---- a value
-
-module _ (l : Leaf) (s : List ℕ) (p e : ℕ) (x : Seen) where
-  module _ (t : ℕ) (i : t ≡ l .tag) (j : x ≡ headAt t s p e) where
-    pub record-none : (n q a z : ℕ) → x ≡ Bad n q → (a, z) ≡ spanOf p x → (a, z) ≡ spanAt side.Record l s p e
-    unfolding spanAt
-    record-none n q a z h g = rw (← i, ← j, h) (g ∙ ap (spanOf p) h)
-
-    pub record-there : (a n z : ℕ) → x ≡ At a z → n ≡ length (l .front) → (a + n, z) ≡ spanAt side.Record l s p e
-    unfolding spanAt
-    record-there a n z h k = rw (← i, ← j, h, k)
-
-  module _ (j : x ≡ sectionAt s p e) where
-    pub sheet-none : (n q a z : ℕ) → x ≡ Bad n q → (a, z) ≡ spanOf p x → (a, z) ≡ spanAt side.Sheet l s p e
-    unfolding spanAt
-    sheet-none n q a z h g = rw (← j, h) (g ∙ ap (spanOf p) h)
-
-    pub sheet-there : (a z : ℕ) (v : Seen) (b y : ℕ) → x ≡ At a z → v ≡ inSection (l .holds) s p a z → (b, y) ≡ spanOf p v → (b, y) ≡ spanAt side.Sheet l s p e
-    unfolding spanAt
-    sheet-there a z v b y h k g = rw (← j, h, ← k) g
-
-pub value-record : (s : List ℕ) (from : Side) (f : Primitive) (p e a z : ℕ) → from ≡ side.Record → (a, z) ≡ spanAt side.Record (leafOf f) s p e → (a, z) ≡ spanAt from (leafOf f) s p e
-value-record s from f p e a z i g = rw i g
-
-pub value-sheet : (s : List ℕ) (from : Side) (f : Primitive) (p e a z : ℕ) → from ≡ side.Sheet → (a, z) ≡ spanAt side.Sheet (leafOf f) s p e → (a, z) ≡ spanAt from (leafOf f) s p e
-value-sheet s from f p e a z i g = rw i g
 
 -- ---- what stands in an item
 
@@ -94,31 +58,8 @@ more-record from k n p z i = rw i
 pub more-sheet : (from : Side) (k n p z : ℕ) → from ≡ side.Sheet → ltb k n ≡ more from k n p z
 more-sheet from k n p z i = rw i
 
--- ---- an optional item, a flag and a known member
+-- ---- an optional item
 
-module _ (s : List ℕ) (from : Side) (p e : ℕ) (i : from ≡ side.Record) where
-  pub present-record : (t : Tag) (b : Bool) → b ≡ beginsAt (tagByte t) s p e → (b, p) ≡ presentAt from (tagByte t) s p e
-  unfolding presentAt
-  present-record t b g = rw (i, g)
-
-  module _ (b : Bool) (j : b ≡ beginsAt (tagByte tag.Boolean) s p e) where
-    pub flag-there : (a z : ℕ) → b ≡ true → (a, z) ≡ spanAt side.Record (leafOf primitive.Critical) s p e → (true, z) ≡ flagAt from s p e
-    unfolding flagAt pick
-    flag-there a z k g = rw (i, ← j, k) (ap (λ (y : ℕ × ℕ). (true, y .1)) g)
-
-    pub flag-gone : b ≡ false → (false, p) ≡ flagAt from s p e
-    unfolding flagAt pick
-    flag-gone k = rw (i, ← j, k)
-
-  pub known-record : (w : Word) (f : Primitive) (a z : ℕ) → leafOf f ≡ only (knownOf w) → (a, z) ≡ spanAt side.Record (leafOf f) s p e → z ≡ knownAt from (knownOf w) s p e
-  unfolding knownAt
-  known-record w f a z j g = rw i (ap (λ (y : ℕ × ℕ). y .1) g ∙ ap (λ (l : Leaf). spanAt side.Record l s p e .1) j)
-
-module _ (s : List ℕ) (from : Side) (p e : ℕ) (i : from ≡ side.Sheet) where
-  pub flag-sheet : (a z : ℕ) (b : Bool) (w : List ℕ) → (a, z) ≡ spanAt side.Sheet (leafOf primitive.Critical) s p e → w ≡ slice a z s → b ≡ same w (1 ∷ []) → (b, z) ≡ flagAt from s p e
-  unfolding flagAt valueAt
-  flag-sheet a z b w g k l = rw (i, ← g, l, k)
-
-  pub known-sheet : (w : Word) → p ≡ knownAt from (knownOf w) s p e
-  unfolding knownAt
-  known-sheet w = rw i
+pub present-record : (s : List ℕ) (from : Side) (p e : ℕ) (t : Tag) (b : Bool) → from ≡ side.Record → b ≡ beginsAt (tagByte t) s p e → (b, p) ≡ presentAt from (tagByte t) s p e
+unfolding presentAt
+present-record s from p e t b i g = rw (i, g)

@@ -1,17 +1,13 @@
-// The steps in a source, a record or a sheet: where a value lies, what stands in an item, how many items there are.
+// The steps in a source, a record or a sheet: what stands in an item, how many items there are, whether one is there.
+use counts::COUNT_BYTES;
 use heads::Seen;
-use items::Tag;
 use layouts::Tally;
-use primitives::Primitive;
-use primitives::Word;
-use sections::COUNT_BYTES;
 use sides::Side;
+use tags::Tag;
 ghost use mathlib.Core.Path.{_≡_};
-ghost use Rattle.items.specs.Scan.{tagByte};
+ghost use Rattle.tags.specs.Tag.{tagByte};
 ghost use Rattle.layouts.specs.SheetScan.{countAt};
-ghost use Rattle.primitives.specs.Primitive.{leafOf, knownOf};
-ghost use Rattle.sides.specs.Move.{spanOf, spanAt, countOf, openAt, after as afterOf, more as moreOf, presentAt, flagAt, knownAt};
-ghost use Rattle.sides.specs.declared.Side.the-variants as side;
+ghost use Rattle.sides.specs.Move.{spanOf, countOf, openAt, after as afterOf, more as moreOf, presentAt};
 
 // Where something starts and where it stops.
 pub struct Span {
@@ -39,7 +35,7 @@ pub struct Presence {
 }
 
 // The content that was found at a position, of a refused one nothing.
-fn content(h: Seen, at: usize) -> Span
+pub fn content(h: Seen, at: usize) -> Span
     ensures { λ r. ⌜ (r .start, r .end) ≡ spanOf at h ⌝ }
 {
     match h {
@@ -52,7 +48,7 @@ fn content(h: Seen, at: usize) -> Span
 fn counted_at(s: &[u8], at: usize, end: usize) -> Counted
     ensures { λ r. ⌜ (r .items, r .start) ≡ countOf at (countAt (now (s .entry)) at end) ⌝ }
 {
-    let c = sections::count(s, at, end);
+    let c = counts::count(s, at, end);
     let Tally::Items(n) = c else {
         return Counted {
             items: 0,
@@ -62,41 +58,6 @@ fn counted_at(s: &[u8], at: usize, end: usize) -> Counted
     Counted {
         items: n,
         start: at + COUNT_BYTES,
-    }
-}
-
-// The value of a primitive item in a record.
-fn in_record(s: &[u8], p: Primitive, at: usize, end: usize) -> Span
-    ensures { λ r. ⌜ (r .start, r .end) ≡ spanAt side.Record (leafOf p) (now (s .entry)) at end ⌝ }
-{
-    let h = items::head(s, primitives::tag_of(p), at, end);
-    let Seen::Item { start: a, end: z } = h else {
-        return content(h, at);
-    };
-    Span {
-        start: a + primitives::hidden_of(p),
-        end: z,
-    }
-}
-
-// The value of a primitive item in a sheet.
-fn in_sheet(s: &[u8], p: Primitive, at: usize, end: usize) -> Span
-    ensures { λ r. ⌜ (r .start, r .end) ≡ spanAt side.Sheet (leafOf p) (now (s .entry)) at end ⌝ }
-{
-    let h = sections::section(s, at, end);
-    let Seen::Item { start: a, end: z } = h else {
-        return content(h, at);
-    };
-    content(sections::value(s, p, at, a, z), at)
-}
-
-// The value of a primitive item, which ends where the item does.
-pub fn value(s: &[u8], from: Side, p: Primitive, at: usize, end: usize) -> Span
-    ensures { λ r. ⌜ (r .start, r .end) ≡ spanAt from (leafOf p) (now (s .entry)) at end ⌝ }
-{
-    match from {
-        Side::Record => in_record(s, p, at, end),
-        Side::Sheet => in_sheet(s, p, at, end),
     }
 }
 
@@ -157,7 +118,7 @@ pub fn present(s: &[u8], from: Side, t: Tag, at: usize, end: usize) -> Presence
 {
     match from {
         Side::Record => Presence {
-            there: items::begins(s, t, at, end),
+            there: edges::begins(s, t, at, end),
             start: at,
         },
         Side::Sheet => {
@@ -167,47 +128,5 @@ pub fn present(s: &[u8], from: Side, t: Tag, at: usize, end: usize) -> Presence
                 start: c.start,
             }
         }
-    }
-}
-
-// A flag, and where what follows it starts.
-pub fn flag(s: &[u8], from: Side, at: usize, end: usize) -> Presence
-    ensures { λ r. ⌜ (r .there, r .start) ≡ flagAt from (now (s .entry)) at end ⌝ }
-{
-    match from {
-        Side::Record => {
-            if items::begins(s, Tag::Boolean, at, end) {
-                let h = in_record(s, Primitive::Critical, at, end);
-                return Presence {
-                    there: true,
-                    start: h.end,
-                };
-            }
-            Presence {
-                there: false,
-                start: at,
-            }
-        }
-        Side::Sheet => {
-            let h = in_sheet(s, Primitive::Critical, at, end);
-            let w = windows::window(s, h.start, h.end);
-            Presence {
-                there: windows::is_same(w, b"\x01"),
-                start: h.end,
-            }
-        }
-    }
-}
-
-// Where what follows a known member starts: a sheet has none.
-pub fn known(s: &[u8], from: Side, w: Word, at: usize, end: usize) -> usize
-    ensures { λ r. ⌜ r ≡ knownAt from (knownOf w) (now (s .entry)) at end ⌝ }
-{
-    match from {
-        Side::Record => {
-            let h = in_record(s, primitives::known_as(w), at, end);
-            h.end
-        }
-        Side::Sheet => at,
     }
 }

@@ -1,12 +1,7 @@
 // Bytes stored one after another in a destination, as far as it has room; each function answers the position after them.
-use items::Tag;
 ghost use mathlib.Core.Path.{_≡_};
 ghost use mathlib.Core.List.{[], _∷_};
-ghost use Prim.Native.Nat.{_%_};
 ghost use lib.ListN.{replicate};
-ghost use Rattle.items.specs.Scan.{tagByte};
-ghost use Rattle.heads.specs.Head.{forms, octets};
-ghost use Rattle.layouts.specs.Sheet.{count as countOf};
 ghost use Rattle.stores.specs.Store.{bump as bumpOf, advance, puts};
 
 // Where positions stop.
@@ -35,15 +30,8 @@ pub fn add(o: usize, n: usize) -> usize
     o + n
 }
 
-// The lowest byte of a number.
-fn low(x: usize) -> u8
-    ensures { λ r. ⌜ r ≡ x % 256 ⌝ }
-{
-    (x % 256) as u8
-}
-
 // One byte.
-fn put(dst: &mut [u8], o: usize, b: u8) -> usize
+pub fn put(dst: &mut [u8], o: usize, b: u8) -> usize
     ensures { λ r. ⌜ (r, now (dst .exit)) ≡ puts (b ∷ []) (now (dst .entry)) o ⌝ }
 {
     if dst.len() <= o {
@@ -51,47 +39,6 @@ fn put(dst: &mut [u8], o: usize, b: u8) -> usize
     }
     dst[o] = b;
     bump(o)
-}
-
-// Two bytes.
-fn put_two(dst: &mut [u8], o: usize, a: u8, b: u8) -> usize
-    ensures { λ r. ⌜ (r, now (dst .exit)) ≡ puts (a ∷ b ∷ []) (now (dst .entry)) o ⌝ }
-{
-    let p = put(dst, o, a);
-    put(dst, p, b)
-}
-
-// A count of a sheet: four bytes, the highest first.
-pub fn count(dst: &mut [u8], o: usize, n: usize) -> usize
-    ensures { λ r. ⌜ (r, now (dst .exit)) ≡ puts (countOf n) (now (dst .entry)) o ⌝ }
-{
-    let p = put_two(dst, o, low(n / 16777216), low(n / 65536));
-    put_two(dst, p, low(n / 256), low(n))
-}
-
-// The length of a content in its shortest form; nothing from 65,536 on.
-fn size(dst: &mut [u8], o: usize, n: usize) -> usize
-    ensures { λ r. ⌜ (r, now (dst .exit)) ≡ puts (octets forms n) (now (dst .entry)) o ⌝ }
-{
-    if n < 128 {
-        return put(dst, o, low(n));
-    }
-    if n < 256 {
-        return put_two(dst, o, 0x81, low(n));
-    }
-    if n < 65536 {
-        let p = put(dst, o, 0x82);
-        return put_two(dst, p, low(n / 256), low(n));
-    }
-    o
-}
-
-// The head of an item: its tag, and the length of its content.
-pub fn head(dst: &mut [u8], o: usize, t: Tag, n: usize) -> usize
-    ensures { λ r. ⌜ (r, now (dst .exit)) ≡ puts (tagByte t ∷ octets forms n) (now (dst .entry)) o ⌝ }
-{
-    let p = put(dst, o, items::tag_byte(t));
-    size(dst, p, n)
 }
 
 // One byte, so many times.

@@ -3,8 +3,8 @@ use mathlib.Core.Path.{_≡_}
 use Prim.Native.Nat.{ℕ}
 use mathlib.Core.Bool.{Bool}
 use Rattle.terms.specs.declared.Field.{Field}
-use Rattle.items.specs.declared.Tag.{Tag}
-use Rattle.items.specs.Scan.{tagByte}
+use Rattle.tags.specs.declared.Tag.{Tag}
+use Rattle.tags.specs.Tag.{tagByte}
 use Rattle.layouts.specs.Layout.{tagOf}
 use Rattle.primitives.specs.declared.Primitive.{Primitive}
 use Rattle.primitives.specs.Primitive.{leafOf}

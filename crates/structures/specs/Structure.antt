@@ -1,7 +1,7 @@
 -- What the names of the code's structures stand for: rows, items and builds as the layouts of `records`. Assumes nothing.
 use Rattle.terms.specs.Answer.{never-empty}
 use Rattle.contents.specs.Leaves as leaves
-use Rattle.items.specs.Scan.{tagByte}
+use Rattle.tags.specs.Tag.{tagByte}
 use Rattle.layouts.specs.Layout.{Item, leaf, node, list, wrap, Members}
 use Rattle.layouts.specs.Whole.{sequence}
 use Rattle.records.specs.Record as rules

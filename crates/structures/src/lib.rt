@@ -1,13 +1,13 @@
 // The structures of the rules by name, and how each is built: a primitive item, a row in a tag, a list, or an item in a tag of its own.
-use items::Tag;
 use primitives::Primitive;
 use records::Record;
+use tags::Tag;
 use terms::Field;
 use terms::MAY_BE_EMPTY;
 use terms::MOST_ITEMS;
 use terms::NEVER_EMPTY;
 ghost use mathlib.Core.Path.{_≡_};
-ghost use Rattle.items.specs.Scan.{tagByte};
+ghost use Rattle.tags.specs.Tag.{tagByte};
 ghost use Rattle.layouts.specs.Layout.{tagOf};
 ghost use Rattle.records.specs.Handing.{layoutOf as recordLayout};
 ghost use Rattle.structures.specs.Structure.{rowOf, layoutOf, itemOf};

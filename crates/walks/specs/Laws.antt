@@ -18,9 +18,9 @@ use Rattle.heads.specs.declared.Seen.{Seen}
 use Rattle.heads.specs.declared.Seen.the-variants.{Item as At, Refused as Bad}
 use Rattle.heads.specs.declared.Step.{Step}
 use Rattle.heads.specs.declared.Step.the-variants.{Next, Refused}
-use Rattle.items.specs.declared.Tag.{Tag}
-use Rattle.items.specs.declared.Tag.the-variants as tag
-use Rattle.items.specs.Scan.{tagByte}
+use Rattle.tags.specs.declared.Tag.{Tag}
+use Rattle.tags.specs.declared.Tag.the-variants as tag
+use Rattle.tags.specs.Tag.{tagByte}
 use Rattle.contents.specs.Leaves.{Leaf, only}
 use Rattle.layouts.specs.Layout.{Item, leaf, list, Members, Member as Part, tagOf}
 use Rattle.layouts.specs.Scan.{thenSeen, thenStep, thenJudge, leafAt, scanMany, scan, recordScan}

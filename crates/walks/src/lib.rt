@@ -1,7 +1,6 @@
 // One reader over the table of layouts, which notes where each field stands.
 use heads::Seen;
 use heads::Step;
-use items::Tag;
 use layouts::Tally;
 use primitives::Primitive;
 use rows::MEMBERS;
@@ -9,6 +8,7 @@ use rows::Member;
 use structures::Build;
 use structures::Row;
 use structures::Structure;
+use tags::Tag;
 use terms::Field;
 use terms::TOO_MANY_ITEMS;
 ghost use mathlib.Core.Path.{_≡_};
@@ -29,7 +29,7 @@ fn item(
 {
     let b = structures::build_of(x);
     match b {
-        Build::Leaf(primitive) => items::past(entries::leaf(
+        Build::Leaf(primitive) => edges::past(entries::leaf(
             s,
             primitive,
             name,
@@ -41,7 +41,7 @@ fn item(
         Build::Node(t, members) => {
             let h = items::head(s, t, at, end);
             let Seen::Item { start: a, end: z } = h else {
-                return items::past(h);
+                return edges::past(h);
             };
             places::note(places, name, index, at, z, 0);
             row(s, members, index, a, z, places)
@@ -55,7 +55,7 @@ fn item(
         } => {
             let h = entries::list_head(s, tag, empty, at, end);
             let Seen::Item { start: a, end: z } = h else {
-                return items::past(h);
+                return edges::past(h);
             };
             let c = list(s, each, most, item_name, a, z, places);
             match c {
@@ -69,13 +69,13 @@ fn item(
         Build::Wrap(t, y) => {
             let h = items::head(s, t, at, end);
             let Seen::Item { start: a, end: z } = h else {
-                return items::past(h);
+                return edges::past(h);
             };
             let r = item(s, y, name, index, a, z, places);
             let Step::Next(q) = r else {
                 return r;
             };
-            items::close(q, z)
+            edges::close(q, z)
         }
     }
 }
@@ -95,7 +95,7 @@ fn row(s: &[u8], x: Row, index: usize, at: usize, end: usize, places: &mut [usiz
         p = q;
         k += 1;
     }
-    items::close(p, end)
+    edges::close(p, end)
 }
 
 // A member of a row.
@@ -104,20 +104,20 @@ fn member(s: &[u8], m: Member, index: usize, at: usize, end: usize, places: &mut
 {
     match m {
         Member::Blank => Step::Next(at),
-        Member::Known(w) => items::past(leaves::known(s, w, at, end)),
+        Member::Known(w) => edges::past(leaves::known(s, w, at, end)),
         Member::Leaf(name, primitive) => {
-            items::past(entries::leaf(s, primitive, name, index, at, end, places))
+            edges::past(entries::leaf(s, primitive, name, index, at, end, places))
         }
         Member::Part(name, x) => item(s, x, name, index, at, end, places),
         Member::Maybe(name, x) => {
-            if items::begins(s, structures::tag_of(x), at, end) {
+            if edges::begins(s, structures::tag_of(x), at, end) {
                 return item(s, x, name, index, at, end, places);
             }
             Step::Next(at)
         }
         Member::Flag(name) => {
-            if items::begins(s, Tag::Boolean, at, end) {
-                return items::past(entries::leaf(
+            if edges::begins(s, Tag::Boolean, at, end) {
+                return edges::past(entries::leaf(
                     s,
                     Primitive::Critical,
                     name,
@@ -139,7 +139,7 @@ fn member(s: &[u8], m: Member, index: usize, at: usize, end: usize, places: &mut
         } => {
             let h = entries::leaf(s, primitive, by, index, at, end, places);
             let Seen::Item { start: a, end: z } = h else {
-                return items::past(h);
+                return edges::past(h);
             };
             if leaves::is_content(s, content, a, z) {
                 return item(s, first, name, index, z, end, places);
@@ -184,7 +184,7 @@ pub fn record(s: &[u8], x: Row, most: usize, at: usize, end: usize, places: &mut
 {
     let h = items::outermost(s, most, Tag::Sequence, at, end);
     let Seen::Item { start: a, end: z } = h else {
-        return items::past(h);
+        return edges::past(h);
     };
     row(s, x, 0, a, z, places)
 }

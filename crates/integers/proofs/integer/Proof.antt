@@ -1,5 +1,5 @@
 -- `integers::integer`: 6 where the content has no number, then 7 by the number.
-use Rattle.integers.specs.Laws.Number.{integer-bad, integer-good, integer-other}
+use Rattle.integers.specs.Laws.{integer-bad, integer-good, integer-other}
 use borrow.Author.Needs.{needs}
 use Rattle.integers.proofs.integer.Statement.{statement}
 use Rattle.integers.proofs.integer.Tie as tie

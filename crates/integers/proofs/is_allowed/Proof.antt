@@ -1,5 +1,5 @@
 -- `integers::is_allowed`: each kind of number by its most.
-use Rattle.integers.specs.Laws.Number.{allowed-as}
+use Rattle.integers.specs.Laws.{allowed-as}
 use borrow.Author.Needs.{needs}
 use Rattle.integers.proofs.is_allowed.Statement.{statement}
 use Rattle.integers.proofs.is_allowed.Tie as tie

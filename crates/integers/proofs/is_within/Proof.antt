@@ -1,5 +1,5 @@
 -- `integers::is_within`: the two tests of `fromOne`, on what the machine reads of the numbers.
-use Rattle.integers.specs.Laws.Number.{within-low, within-high}
+use Rattle.integers.specs.Laws.{within-low, within-high}
 use Rattle.integers.proofs.is_within.Statement.{statement}
 use Rattle.integers.proofs.is_within.Tie as tie
 

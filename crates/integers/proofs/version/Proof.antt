@@ -1,14 +1,11 @@
 -- `integers::version`: 6 where the content has no number, then 7 by the content.
-use Rattle.integers.specs.Laws.Number.{version-bad, version-good, version-other}
+use Rattle.integers.specs.Laws.{version-bad, version-good, version-other}
 use borrow.Author.Needs.{needs}
 use Rattle.integers.proofs.version.Statement.{statement}
 use Rattle.integers.proofs.version.Tie as tie
 
-window-requires : tie.Need-window-requires
-window-requires c κs = search needs
-
-number-in-requires : tie.Need-number-in-requires
-number-in-requires c κs = search needs
+read-requires : tie.Need-read-requires
+read-requires c κs = search needs
 
 enum-told : tie.Need-enum-told
 enum-told c = search needs
@@ -18,6 +15,9 @@ enum-told-2 c = search needs
 
 returns : tie.Need-returns
 returns c = search (needs, version-bad)
+
+window-requires : tie.Need-window-requires
+window-requires c κs = search needs
 
 slice-aggregate-is-same : tie.Need-slice-aggregate-is-same
 slice-aggregate-is-same c = search needs
@@ -35,11 +35,11 @@ pub version-spec : {M : Type 1} → statement M
 version-spec =
     tie.close
     (tie.spec
-    window-requires
-    number-in-requires
+    read-requires
     enum-told
     enum-told-2
     returns
+    window-requires
     slice-aggregate-is-same
     is-same-requires
     returns-2

@@ -1,5 +1,5 @@
 -- `items::head`: what was opened is cut off the window, what was not is refused.
-use Rattle.items.specs.Laws.Scan.{refused, opened-within, head-opened}
+use Rattle.items.specs.Laws.{refused, opened-within, head-opened}
 use Rattle.heads.specs.Head.{head}
 use Rattle.heads.specs.Scan.{headAt}
 use Rattle.windows.specs.Laws.Window.{clamp-in}

@@ -1,5 +1,5 @@
 -- `items::length_at`: the byte after the tag picks the form; 81 and 82 by one law over the form.
-use Rattle.items.specs.Laws.Scan.{length-missing, length-short, length-other, one-reads, two-reads, long-cut, one-read, two-read}
+use Rattle.items.specs.Laws.{length-missing, length-short, length-other, one-reads, two-reads, long-cut, one-read, two-read}
 use borrow.Author.Needs.{needs}
 use Rattle.items.proofs.length_at.Statement.{statement}
 use Rattle.items.proofs.length_at.Tie as tie

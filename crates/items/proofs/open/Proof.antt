@@ -1,6 +1,6 @@
 -- `items::open`: the tag by what its byte tells, then the length, which is to be shortest.
-use Rattle.items.specs.Laws.Scan.{opening-missing, opening-other, opening-bad, opening-long, opening-good}
-use Rattle.items.specs.Laws.Tag.{tells-other, found-same, found-other}
+use Rattle.items.specs.Laws.{opening-missing, opening-other, opening-bad, opening-long, opening-good}
+use Rattle.tags.specs.Laws.{tells-other, found-same, found-other}
 use borrow.Author.Needs.{needs}
 use Rattle.items.proofs.open.Statement.{statement}
 use Rattle.items.proofs.open.Tie as tie

@@ -1,5 +1,5 @@
 -- `items::outermost`: as `head`, with 17 between.
-use Rattle.items.specs.Laws.Scan.{refused, opened-within, opened-fits, outermost-large, outermost-opened}
+use Rattle.items.specs.Laws.{refused, opened-within, opened-fits, outermost-large, outermost-opened}
 use Rattle.heads.specs.Head.{outermost}
 use Rattle.heads.specs.Scan.{outermostAt}
 use Rattle.windows.specs.Laws.Window.{clamp-in}

@@ -41,7 +41,7 @@ use Rattle.records.specs.declared.Part.{Part}
 use Rattle.records.specs.declared.Part.the-variants.{There, Absent, Refused}
 use Rattle.fields.specs.Handed.{partOf, partUnder}
 use Rattle.fields.specs.Laws.{within-yes, numbers-part, told-part, sought-refused, sought-read, was-read, placed-in}
-use Rattle.matching.specs.Match.{entryAt, ofSeen, listedAt, bytesAt, matchUnder}
+use Rattle.searches.specs.Match.{entryAt, ofSeen, listedAt, bytesAt, matchUnder}
 
 -- a written item at the front of a window: where its content lies, and what is left
 module _ (s : List ℕ) (t p e : ℕ) (c rest : List ℕ) where

@@ -3,7 +3,7 @@ use mathlib.Core.Path.{_≡_}
 use lib.ListN.{length}
 use borrow.Author.Needs.{needs}
 use Rattle.layouts.specs.SheetScan.{sheetScans}
-use Rattle.sections.specs.Laws.{fits-count}
+use Rattle.counts.specs.Laws.{fits-count}
 use Rattle.structures.specs.Structure.{rowOf, layoutOf}
 use Rattle.rows.specs.Row.{row-width, membersOf}
 use Rattle.rows.specs.Size.{size, sizes, sizeOf, from, smaller, row-fewer, size-first, chain}
@@ -24,13 +24,13 @@ use Rattle.sheet_walks.proofs.+item+list+member+row.Lts-member as membe
 use Rattle.sheet_walks.proofs.row.Reads as row
 use Rattle.sheet_walks.proofs.row.Kinds as row-kinds
 use Rattle.sheet_walks.proofs.+item+list+member+row.Lts-row as row-lts
-use Rattle.items.proofs.past.Reads as past-reads
+use Rattle.edges.proofs.past.Reads as past-reads
 use Rattle.leaves.proofs.is_content.Reads as is-content-reads
 use Rattle.rows.proofs.members_of.Reads as members-of-reads
-use Rattle.sections.proofs.count.Reads as count-reads
+use Rattle.counts.proofs.count.Reads as count-reads
 use Rattle.sections.proofs.flag.Reads as flag-reads
 use Rattle.sections.proofs.leaf.Reads as leaf-reads
-use Rattle.sections.proofs.list_count.Reads as list-count-reads
+use Rattle.counts.proofs.list_count.Reads as list-count-reads
 use Rattle.structures.proofs.build_of.Reads as build-of-reads
 use Rattle.sheet_walks.proofs.+item+list+member+row.{statement}
 use Rattle.sheet_walks.proofs.+item+list+member+row.Tie.{close}

@@ -1,6 +1,6 @@
 -- `sources::counted_at`: the count and where it ends, or nothing.
 use borrow.Author.Needs.{needs}
-use Rattle.sections.specs.Laws.{fits-count}
+use Rattle.counts.specs.Laws.{fits-count}
 use Rattle.sources.specs.Laws.{items-none, items-there}
 use Rattle.sources.proofs.counted_at.Statement.{statement}
 use Rattle.sources.proofs.counted_at.Tie as tie

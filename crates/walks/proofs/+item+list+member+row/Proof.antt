@@ -23,9 +23,9 @@ use Rattle.walks.proofs.row.Reads as row
 use Rattle.walks.proofs.row.Kinds as row-kinds
 use Rattle.walks.proofs.+item+list+member+row.Lts-row as row-lts
 use Rattle.items.proofs.head.Reads as head-reads
-use Rattle.items.proofs.begins.Reads as begins-reads
-use Rattle.items.proofs.close.Reads as close-reads
-use Rattle.items.proofs.past.Reads as past-reads
+use Rattle.edges.proofs.begins.Reads as begins-reads
+use Rattle.edges.proofs.close.Reads as close-reads
+use Rattle.edges.proofs.past.Reads as past-reads
 use Rattle.leaves.proofs.is_content.Reads as is-content-reads
 use Rattle.leaves.proofs.known.Reads as known-reads
 use Rattle.places.proofs.note.Reads as note-reads
