@@ -3,7 +3,7 @@ use mathlib.Core.Path.{_≡_, refl, sym, ap, _∙_}
 use Prim.Native.Nat.{ℕ, suc, _<_, _≤_}
 use native.Mathlib.Omega.{arith}
 use borrow.Author.Tests.{le-leb, lt-leb, ne-eqb, not-true, not-false}
-use mathlib.Core.Bool.{Bool, true, false, not}
+use mathlib.Core.Bool.{Bool, true, false, not, _&&_}
 use mathlib.Core.Option.{some}
 use mathlib.Core.List.{List, [], _∷_}
 use Rattle.terms.specs.Numbers.{valid, unreal-time, signature-bad, signer-unlisted, seal-bad, maker-bad, maker-out-of-force, outside-period, seal-withdrawn, signer-bad, outside-dates, signer-revoked, digest-differs, stamp-bad, after-stamp, signer-out-at-stamp}
@@ -13,7 +13,6 @@ use Rattle.contents.specs.Time.{notLater, momentAt}
 use Rattle.moments.specs.declared.Moment.{Moment as CodeMoment}
 use Rattle.moments.specs.Moment.{momentIn}
 use Rattle.verdicts.specs.declared.Findings.{Findings}
-use Rattle.verdicts.specs.declared.Stamping.{Stamping}
 use Rattle.verdicts.specs.declared.Stamping.the-variants.{Unchecked, Bad, Good}
 use Rattle.verdicts.specs.declared.Verdict.{Verdict}
 use Rattle.verdicts.specs.declared.Verdict.the-variants.{Judged, Refused}
@@ -26,7 +25,9 @@ use Rattle.grounds.specs.declared.Ground.the-variants.{Read, Refused as Unread}
 use Rattle.grounds.specs.Ground.{GroundOf}
 use Rattle.judges.specs.declared.Check.{Check}
 use Rattle.judges.specs.declared.Check.the-variants.{Passes, Fails}
-use Rattle.judges.specs.Step.{failed, rowOf, firstOf, Of, Tells, StampedAt, Comes, Numbers, Judges, Weighs}
+use Rattle.judges.specs.declared.StampTime.{StampTime}
+use Rattle.judges.specs.declared.StampTime.the-variants.{At, None}
+use Rattle.judges.specs.Step.{failed, rowOf, firstOf, Of, Tells, Stamped, Comes, Numbers, Judges, Weighs}
 
 -- a row's test, by its number
 row : Unit {0}
@@ -84,6 +85,10 @@ module _ (g : Grounds) (f : Findings) (c : Check) (k : Bool) (e : failed c ≡ n
   pub digest-told : k ≡ g .alike → Tells signatureRules digest-differs g f c
   unfolding row Tells
   digest-told h x r i = e ∙ ap not (h ∙ r .4)
+
+and-false : (b : Bool) → b && false ≡ false
+and-false true = refl
+and-false false = refl
 
 not-not : (b : Bool) → not (not b) ≡ b
 not-not true = refl
@@ -149,43 +154,57 @@ module _ (g : Grounds) (f : Findings) (n : ℕ) where
 -- ---- step h
 
 module _ (g : Grounds) (f : Findings) where
-  pub stamped-at : (n : ℕ) (m : CodeMoment) → g .stamped ≡ true → f .stamp .state ≡ Good n → momentIn m ≡ momentAt n → StampedAt g f m
-  unfolding StampedAt
-  stamped-at n m s e h = (n, s, e, h)
+  -- the stamp's time
+  pub stamp-none : g .stamped ≡ false → Stamped g f None
+  unfolding Stamped
+  stamp-none s k = rw s
 
-  module _ (m : CodeMoment) (w : StampedAt g f m) (c : Check) (k : Bool) (e : failed c ≡ not k) where
-    pub after-told : k ≡ notLater (momentIn (g .signing)) (momentIn m) → Tells signatureRules after-stamp g f c
-    unfolding row Tells StampedAt atStamp
-    after-told h x r i = rw (← (r .5), ← (r .2), w .1, i, w .2, ← (w .3)) (e ∙ ap not h)
+  pub stamp-unchecked : f .stamp .state ≡ Unchecked → Stamped g f None
+  unfolding Stamped atStamp
+  stamp-unchecked e k = rw e (and-false (g .stamped))
 
-    pub force-told-stamp : k ≡ inForce (f .signer) (momentIn m) → Tells signatureRules signer-out-at-stamp g f c
-    unfolding row Tells StampedAt atStamp
-    force-told-stamp h x r i = rw (← (r .5), w .1, i, w .2, ← (w .3)) (e ∙ ap not h)
+  pub stamp-is-bad : f .stamp .state ≡ Bad → Stamped g f None
+  unfolding Stamped atStamp
+  stamp-is-bad e k = rw e (and-false (g .stamped))
 
-  abbrev ByStamp : ℕ → Type 0
-  ByStamp n = Comes signatureRules (stamp-bad ∷ after-stamp ∷ signer-out-at-stamp ∷ []) g f n
+  pub stamp-at : (n : ℕ) (m : CodeMoment) → g .stamped ≡ true → f .stamp .state ≡ Good n → momentIn m ≡ momentAt n → Stamped g f (At m)
+  unfolding Stamped
+  stamp-at n m s e h = (n, s, e, h)
 
-  pub unstamped : g .stamped ≡ false → ByStamp valid
-  unfolding firstOf row Comes
-  unstamped s x r i = rw (← (r .5), s)
+  -- 32
+  pub stamp-told-none : g .stamped ≡ false → Tells signatureRules stamp-bad g f Passes
+  unfolding row Tells
+  stamp-told-none s x r i = rw (← (r .5), s)
 
-  module _ (s : g .stamped ≡ true) where
-    module _ (c : Check) (z : Stamping) (e : f .stamp .state ≡ z) (h : failed c ≡ not (atStamp z (λ t. true))) where
-      stamp-told : Tells signatureRules stamp-bad g f c
-      unfolding row Tells
-      stamp-told x r i = rw (← (r .5), s, i, e) h
+  module _ (o : StampTime) (w : Stamped g f o) where
+    pub stamp-told-bad : g .stamped ≡ true → o ≡ None → Tells signatureRules stamp-bad g f Fails
+    unfolding row Tells Stamped
+    stamp-told-bad s e x r i =
+        let v : Stamped g f None = rw e at w in
+        let k : atStamp (f .stamp .state) (λ t. true) ≡ false = rw s at (v (λ t. true)) in
+        rw (← (r .5), s, i, k)
 
-    pub stamp-unchecked : f .stamp .state ≡ Unchecked → ByStamp stamp-bad
-    unfolding atStamp
-    stamp-unchecked e = stops signatureRules g f stamp-bad (after-stamp ∷ signer-out-at-stamp ∷ []) Fails (stamp-told Fails Unchecked e refl) refl
+    pub stamp-told-good : (m : CodeMoment) → o ≡ At m → Tells signatureRules stamp-bad g f Passes
+    unfolding row Tells Stamped atStamp
+    stamp-told-good m e x r i = let v : Stamped g f (At m) = rw e at w in rw (← (r .5), v .1, i, v .2)
 
-    pub stamp-is-bad : f .stamp .state ≡ Bad → ByStamp stamp-bad
-    unfolding atStamp
-    stamp-is-bad e = stops signatureRules g f stamp-bad (after-stamp ∷ signer-out-at-stamp ∷ []) Fails (stamp-told Fails Bad e refl) refl
+    -- 33 and 34
+    pub after-told-none : o ≡ None → Tells signatureRules after-stamp g f Passes
+    unfolding row Tells Stamped
+    after-told-none e x r i = let v : Stamped g f None = rw e at w in rw (← (r .5), i) (sym (v _))
 
-    pub stamp-good : (t n : ℕ) → f .stamp .state ≡ Good t → Comes signatureRules (after-stamp ∷ signer-out-at-stamp ∷ []) g f n → ByStamp n
-    unfolding atStamp
-    stamp-good t n e h = goes-on signatureRules g f stamp-bad (after-stamp ∷ signer-out-at-stamp ∷ []) Passes (stamp-told Passes (Good t) e refl) n refl h
+    pub force-told-none : o ≡ None → Tells signatureRules signer-out-at-stamp g f Passes
+    unfolding row Tells Stamped
+    force-told-none e x r i = let v : Stamped g f None = rw e at w in rw (← (r .5), i) (sym (v _))
+
+    module _ (m : CodeMoment) (d : o ≡ At m) (c : Check) (k : Bool) (e : failed c ≡ not k) where
+      pub after-told : k ≡ notLater (momentIn (g .signing)) (momentIn m) → Tells signatureRules after-stamp g f c
+      unfolding row Tells Stamped atStamp
+      after-told h x r i = let v : Stamped g f (At m) = rw d at w in rw (← (r .5), ← (r .2), v .1, i, v .2, ← (v .3)) (e ∙ ap not h)
+
+      pub force-told-stamp : k ≡ inForce (f .signer) (momentIn m) → Tells signatureRules signer-out-at-stamp g f c
+      unfolding row Tells Stamped atStamp
+      force-told-stamp h x r i = let v : Stamped g f (At m) = rw d at w in rw (← (r .5), v .1, i, v .2, ← (v .3)) (e ∙ ap not h)
 
 -- ---- the answer
 

@@ -1,13 +1,12 @@
 -- What a step tells of the table's row with its number, and what the steps come to. Assumes nothing.
 use mathlib.Core.Path.{_≡_}
 use Prim.Native.Nat.{ℕ}
-use mathlib.Core.Bool.{Bool, true, false}
+use mathlib.Core.Bool.{Bool, true, false, _&&_}
 use mathlib.Core.List.{List, [], _∷_}
 use lib.Dec.{eqb}
 use Rattle.terms.specs.Numbers.{unreal-time}
 use Rattle.terms.specs.Answer.{pick}
-use Rattle.contents.specs.Time.{momentAt}
-use Rattle.moments.specs.declared.Moment.{Moment as CodeMoment}
+use Rattle.contents.specs.Time.{Moment, momentAt}
 use Rattle.moments.specs.Moment.{momentIn}
 use Rattle.layouts.specs.Fields.{first}
 use Rattle.verdicts.specs.declared.Findings.{Findings}
@@ -15,11 +14,13 @@ use Rattle.verdicts.specs.Verdict.{Step, orElse, firstFailing, Facts, Rulebook,
 use Rattle.verdicts.specs.declared.Stamping.the-variants.{Good}
 use Rattle.verdicts.specs.declared.Verdict.{Verdict}
 use Rattle.verdicts.specs.declared.Verdict.the-variants.{Refused}
-use Rattle.verdicts.specs.Findings.{allReal}
+use Rattle.verdicts.specs.Findings.{atStamp, allReal}
 use Rattle.grounds.specs.declared.Grounds.{Grounds}
 use Rattle.grounds.specs.Ground.{Rests}
 use Rattle.judges.specs.declared.Check.{Check}
 use Rattle.judges.specs.declared.Check.the-variants.{Passes, Fails}
+use Rattle.judges.specs.declared.StampTime.{StampTime}
+use Rattle.judges.specs.declared.StampTime.the-variants.{At, None}
 
 abbrev pub failed : Check → Bool
 failed Passes = false
@@ -50,9 +51,10 @@ Comes b ns g f n = Of g f (λ x. n ≡ firstOf b ns x)
 unfoldable pub Numbers : Rulebook → Grounds → Findings → ℕ → Type 0
 Numbers b g f n = Of g f (λ x. n ≡ firstFailing (b .steps) (b .passed) x .number)
 
--- a record with a stamp that is good at a time
-unfoldable pub StampedAt : Grounds → Findings → CodeMoment → Type 0
-StampedAt g f m = (n : ℕ) × (g .stamped ≡ true) × (f .stamp .state ≡ Good n) × (momentIn m ≡ momentAt n)
+-- a record with a stamp that is good at a time; else no test of its time holds
+unfoldable pub Stamped : Grounds → Findings → StampTime → Type 0
+Stamped g f (At m) = (n : ℕ) × (g .stamped ≡ true) × (f .stamp .state ≡ Good n) × (momentIn m ≡ momentAt n)
+Stamped g f None = (k : Moment → Bool) → (g .stamped && atStamp (f .stamp .state) k) ≡ false
 
 -- the number with its notice
 unfoldable pub Judges : Rulebook → Grounds → Findings → Verdict → Type 0

@@ -1,5 +1,6 @@
 // The verdicts on a seal and on a signature record: the number of the first step that fails, and the notice.
 use grounds::Ground;
+use moments::Moment;
 use records::Record;
 use verdicts::Findings;
 use verdicts::Verdict;
@@ -14,6 +15,12 @@ mod steps;
 pub enum Check {
     Passes,
     Fails,
+}
+
+// The time of a stamp that is there and good, if there is one.
+pub enum StampTime {
+    At(Moment),
+    None,
 }
 
 // The signature verdict, with the given digests of the original and of the signer.

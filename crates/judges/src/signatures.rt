@@ -2,7 +2,6 @@
 use crate::Check;
 use crate::steps;
 use grounds::Grounds;
-use moments::Moment;
 use verdicts::AFTER_STAMP;
 use verdicts::DIGEST_DIFFERS;
 use verdicts::Findings;
@@ -17,7 +16,6 @@ use verdicts::SIGNER_OUT_AT_STAMP;
 use verdicts::SIGNER_REVOKED;
 use verdicts::SIGNER_UNLISTED;
 use verdicts::STAMP_BAD;
-use verdicts::Stamping;
 use verdicts::UNREAL_TIME;
 use verdicts::VALID;
 use verdicts::Verdict;
@@ -26,7 +24,7 @@ ghost use mathlib.Core.List.{[], _∷_};
 ghost use Rattle.terms.specs.Numbers.{signer-bad, outside-dates, signer-revoked, digest-differs, stamp-bad, after-stamp, signer-out-at-stamp};
 ghost use Rattle.verdicts.specs.Verdict.{signatureRules, makerOut};
 ghost use Rattle.verdicts.specs.Laws.Verdict.{takesNotice};
-ghost use Rattle.judges.specs.Step.{Of, StampedAt, Comes, Numbers, Judges, Weighs};
+ghost use Rattle.judges.specs.Step.{Of, Comes, Numbers, Judges, Weighs};
 
 // The signature verdict's number: the first step that fails, in the order of the standard (000, 7.3).
 fn number(g: Grounds, f: Findings) -> u8
@@ -72,31 +70,17 @@ fn number_by_signer(g: Grounds, f: Findings) -> u8
     number_by_stamp(g, f)
 }
 
-// The number of a record that passes b to g: by its stamp, if it has one.
+// The number of a record that passes b to g: the step h.
 fn number_by_stamp(g: Grounds, f: Findings) -> u8
     ensures { λ r. ⌜ Comes signatureRules (stamp-bad ∷ after-stamp ∷ signer-out-at-stamp ∷ []) g f r ⌝ }
 {
-    if !g.stamped {
-        return VALID;
-    }
-    let stamp = f.stamp;
-    let state = stamp.state;
-    match state {
-        Stamping::Unchecked => STAMP_BAD,
-        Stamping::Bad => STAMP_BAD,
-        Stamping::Good(time) => number_at_stamp(g, f, moments::of_finding(time)),
-    }
-}
-
-// The number of a record with a good stamp that passes all before: the rest of h.
-fn number_at_stamp(g: Grounds, f: Findings, stamp: Moment) -> u8
-    requires { ⌜ StampedAt g f stamp ⌝ }
-    ensures { λ r. ⌜ Comes signatureRules (after-stamp ∷ signer-out-at-stamp ∷ []) g f r ⌝ }
-{
-    let Check::Passes = steps::signed_by(g, f, stamp) else {
+    let Check::Passes = steps::stamp_is_good(g, f) else {
+        return STAMP_BAD;
+    };
+    let Check::Passes = steps::signed_by_stamp(g, f) else {
         return AFTER_STAMP;
     };
-    let Check::Passes = steps::signer_in_force(g, f, stamp) else {
+    let Check::Passes = steps::signer_in_force(g, f) else {
         return SIGNER_OUT_AT_STAMP;
     };
     VALID

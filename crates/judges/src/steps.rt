@@ -1,14 +1,15 @@
 // The steps: each passes or fails, as its row of the table says.
 use grounds::Grounds;
-use moments::Moment;
 use verdicts::Findings;
+use verdicts::Stamping;
 ghost use mathlib.Core.Path.{_≡_};
 ghost use mathlib.Core.Bool.{not};
-ghost use Rattle.terms.specs.Numbers.{signature-bad, signer-unlisted, seal-bad, maker-bad, maker-out-of-force, outside-period, seal-withdrawn, signer-bad, outside-dates, signer-revoked, digest-differs, after-stamp, signer-out-at-stamp};
+ghost use Rattle.terms.specs.Numbers.{signature-bad, signer-unlisted, seal-bad, maker-bad, maker-out-of-force, outside-period, seal-withdrawn, signer-bad, outside-dates, signer-revoked, digest-differs, stamp-bad, after-stamp, signer-out-at-stamp};
 ghost use Rattle.verdicts.specs.Findings.{allReal};
 ghost use Rattle.verdicts.specs.Verdict.{signatureRules, sealRules};
-ghost use Rattle.judges.specs.Step.{failed, Tells, StampedAt};
+ghost use Rattle.judges.specs.Step.{failed, Tells, Stamped};
 use crate::Check;
+use crate::StampTime;
 
 // A step that passes where a test holds.
 fn passes_if(holds: bool) -> Check
@@ -97,19 +98,52 @@ pub fn digest_is_alike(g: Grounds, f: Findings) -> Check
     passes_if(g.alike)
 }
 
-// h: signing is not later than the stamp's time.
-pub fn signed_by(g: Grounds, f: Findings, stamp: Moment) -> Check
-    requires { ⌜ StampedAt g f stamp ⌝ }
+// The time of a stamp that is there and good.
+fn good_stamp(g: Grounds, f: Findings) -> StampTime
+    ensures { λ r. ⌜ Stamped g f r ⌝ }
+{
+    if !g.stamped {
+        return StampTime::None;
+    }
+    let stamp = f.stamp;
+    let state = stamp.state;
+    match state {
+        Stamping::Unchecked => StampTime::None,
+        Stamping::Bad => StampTime::None,
+        Stamping::Good(time) => StampTime::At(moments::of_finding(time)),
+    }
+}
+
+// h: a stamp that is there is good.
+pub fn stamp_is_good(g: Grounds, f: Findings) -> Check
+    ensures { λ r. ⌜ Tells signatureRules stamp-bad g f r ⌝ }
+{
+    if !g.stamped {
+        return Check::Passes;
+    }
+    let StampTime::At(_) = good_stamp(g, f) else {
+        return Check::Fails;
+    };
+    Check::Passes
+}
+
+// h: signing is not later than a good stamp's time.
+pub fn signed_by_stamp(g: Grounds, f: Findings) -> Check
     ensures { λ r. ⌜ Tells signatureRules after-stamp g f r ⌝ }
 {
+    let StampTime::At(stamp) = good_stamp(g, f) else {
+        return Check::Passes;
+    };
     passes_if(moments::is_not_later(g.signing, stamp))
 }
 
-// h: the signer's certificate is in force at the stamp's time.
-pub fn signer_in_force(g: Grounds, f: Findings, stamp: Moment) -> Check
-    requires { ⌜ StampedAt g f stamp ⌝ }
+// h: the signer's certificate is in force at a good stamp's time.
+pub fn signer_in_force(g: Grounds, f: Findings) -> Check
     ensures { λ r. ⌜ Tells signatureRules signer-out-at-stamp g f r ⌝ }
 {
+    let StampTime::At(stamp) = good_stamp(g, f) else {
+        return Check::Passes;
+    };
     passes_if(findings::is_in_force(f.signer, stamp))
 }
 
