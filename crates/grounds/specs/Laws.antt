@@ -11,7 +11,7 @@ use Rattle.terms.specs.declared.Field.{Field}
 use Rattle.terms.specs.declared.Field.the-variants.{Start, End, SigningTime, ListKind, SignerCertificate, OriginalDigest, Stamp}
 use Rattle.terms.specs.Numbers.{largest-record}
 use Rattle.terms.specs.Answer.{Res, good, fault, pick, same, answered}
-use Rattle.terms.specs.Laws.Answer.{never}
+use Rattle.terms.specs.Laws.Answer.{never, clash, good-inj}
 use Rattle.contents.specs.Integer.{saysKind1}
 use Rattle.contents.specs.Time.{momentOf}
 use Rattle.layouts.specs.Layout.{Members, Values, All}
@@ -27,16 +27,22 @@ use Rattle.records.specs.declared.Part.{Part}
 use Rattle.records.specs.Part.{PartOf}
 use Rattle.records.specs.Handing.{layoutOf, toldRecord, readRecord, fieldsOf, isListed}
 use Rattle.records.specs.Laws.Handing.{fields-in}
-use Rattle.verdicts.specs.Verdict.{the, timeOf, sought, signerListed, stamped}
+use Rattle.verdicts.specs.declared.Findings.{Findings}
+use Rattle.verdicts.specs.declared.CertificateFacts.{CertificateFacts}
+use Rattle.verdicts.specs.declared.Revocation.the-variants.{Never}
+use Rattle.verdicts.specs.declared.Stamping.the-variants.{Unchecked}
+use Rattle.verdicts.specs.Verdict.{Facts, factsOf, the, timeOf, sought, signerListed, stamped}
 use Rattle.fields.specs.Handed.{partOf, partUnder, spanOf, within}
 use Rattle.fields.specs.Laws.{within-yes, numbers-part, was-read, placed-in}
 use Rattle.moments.specs.declared.Moment.{Moment as CodeMoment}
 use Rattle.moments.specs.Moment.{momentIn}
+use Rattle.moments.specs.Laws.{one-moment}
 use Rattle.matching.specs.Match.{bytesAt, matchUnder}
 use Rattle.matching.specs.Laws.Match.{match-is}
 use Rattle.grounds.specs.declared.Grounds.{Grounds}
+use Rattle.grounds.specs.declared.Ground.{Ground}
 use Rattle.grounds.specs.declared.Ground.the-variants.{Read, Refused}
-use Rattle.grounds.specs.Ground.{Leads, GroundOf, soughtUnder, isPart}
+use Rattle.grounds.specs.Ground.{Rests, Leads, GroundOf, soughtUnder, isPart}
 
 -- ---- the steps of reading them
 
@@ -114,3 +120,30 @@ module _ (x : Record) (w original signer : List ℕ) (m : Members) (i : m ≡ la
             stamp ∙ there-under w (fields (layoutOf x) v) st d p Stamp,
           ),
         )
+
+-- ---- the contract admits one answer
+
+rests-one : (x : Facts) (g h : Grounds) → Rests x g → Rests x h → g ≡ h
+rests-one x g h a b =
+    λ i. record {
+      start = one-moment (g .start) (h .start) (a .0 ∙ sym (b .0)) i;
+      end = one-moment (g .end) (h .end) (a .1 ∙ sym (b .1)) i;
+      signing = one-moment (g .signing) (h .signing) (a .2 ∙ sym (b .2)) i;
+      listed = (a .3 ∙ sym (b .3)) i;
+      alike = (a .4 ∙ sym (b .4)) i;
+      stamped = (a .5 ∙ sym (b .5)) i;
+    }
+
+-- whatever was found
+abbrev noFacts : CertificateFacts
+noFacts = record { chain = false; usage = false; dates = record { first = 0; last = 0 }; revocation = Never }
+
+abbrev nothingFound : Findings
+nothingFound = record { signature = false; sealing = false; now = 0; maker = noFacts; signer = noFacts; seal = record { withdrawn = Never }; stamp = record { state = Unchecked } }
+
+pub one-ground : (r : Members) (w original signer : List ℕ) (x y : Ground) → GroundOf r w original signer x → GroundOf r w original signer y → x ≡ y
+one-ground r w original signer (Read g) (Read h) (v, e, a) (v′, e′, b) =
+    let i : v′ ≡ v = good-inj (sym e′ ∙ e) in ap Read (rests-one (factsOf r v nothingFound original signer) g h (a nothingFound) (subst (λ (z : Values r). Rests (factsOf r z nothingFound original signer) h) i (b nothingFound)))
+one-ground r w original signer (Read g) (Refused n p) (v, e, a) e′ = clash (sym e′ ∙ e)
+one-ground r w original signer (Refused n p) (Read h) e (v′, e′, b) = clash (sym e ∙ e′)
+one-ground r w original signer (Refused n p) (Refused n′ p′) e e′ = cc

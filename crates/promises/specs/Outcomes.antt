@@ -7,6 +7,7 @@ use Prim.Native.Nat.{ℕ, suc, zero}
 use lib.ListN.{length}
 use lib.Dec.{eqb}
 use lib.IntN.{ℤ, pos, negsuc}
+use denote.Ref.{RefT}
 use Rattle.terms.specs.Answer.{Told, gives, refuses}
 use Rattle.layouts.specs.Fields.{Entry}
 use Rattle.layouts.specs.Places.{table-size, Placed}
@@ -14,6 +15,7 @@ use Rattle.layouts.specs.Laws.Places.{placed-once}
 use Rattle.layouts.specs.Whole.{toldOutcome}
 use Rattle.layouts.specs.declared.Outcome.{Outcome}
 use Rattle.layouts.specs.declared.Outcome.the-variants.{Length, Refused as NotDone}
+use Rattle.records.specs.Part.{PartOf}
 use Rattle.records.specs.Handing.{toldPart, toldNumber, toldIs, toldItems}
 use Rattle.records.specs.declared.Part.{Part}
 use Rattle.records.specs.declared.Part.the-variants.{There, Absent as NoPart, Refused as PartRefused}
@@ -54,6 +56,17 @@ outcome-back (NotDone n p) = refl
 
 pub one-outcome : (x y : Outcome) → toldOutcome x ≡ toldOutcome y → x ≡ y
 one-outcome = one-answer toldOutcome outcome outcome-back
+
+-- of a contract that is an equation, and of one that says the bytes of a lent buffer after the call beside it
+pub one-equation : {A : Type 0} (x y z : A) → x ≡ z → y ≡ z → x ≡ y
+one-equation x y z e h = e ∙ sym h
+
+pub one-outcome-and-bytes : (x y : Outcome) (t : Told) (d d′ z : List ℕ) → (toldOutcome x ≡ t) × (d ≡ z) → (toldOutcome y ≡ t) × (d′ ≡ z) → (x ≡ y) × (d ≡ d′)
+one-outcome-and-bytes x y t d d′ z h k = (one-outcome x y (one-equation _ _ t (h .0) (k .0)), one-equation d d′ z (h .1) (k .1))
+
+-- of a part of a lent record: where it lies and what it holds
+pub one-part-of : (s r r′ : RefT (List ℕ)) (p : ℕ × ℕ) → PartOf s r p → PartOf s r′ p → (r .ptr ≡ r′ .ptr) × (r .now ≡ r′ .now)
+one-part-of s r r′ p h k = (one-equation _ _ _ (h .lies) (k .lies), one-equation _ _ _ (h .holds) (k .holds))
 
 -- of the table of places beside it: four numbers for each of 43 names, the index that was wanted, and no other
 pub one-table : (i : ℕ) (xs : List Entry) (d d′ : List ℕ) → length d ≡ table-size → length d′ ≡ table-size → Placed i xs d → Placed i xs d′ → d ≡ d′
