@@ -37,7 +37,7 @@ fn read_some(buf: &mut [u8], at: usize) -> Read
     Read::More(n)
 }
 
-// Fills a buffer, which has room for more than the largest record, until it is full or the input ends.
+// Fills a buffer, which has room for more than the largest record, until it is full, the input ends or a read fails.
 pub fn fill(buf: &mut [u8]) -> Input
     requires { ⌜ largest-record < length (now buf) ⌝ }
     ensures { λ r. ⌜ Filled r (now (buf .exit)) ⌝ }
