@@ -38,9 +38,9 @@ use Rattle.records.specs.Laws.Handing.{Tells}
 use Rattle.records.specs.Laws.Handing as Handing
 use Rattle.runs.specs.Run.{runOf, Ran, whole, stopped, readRun, runAnswer, Reader, at, made, hereAt, top, oneMore, stepAfter, stepAnswer, refusal-after}
 use Rattle.runs.specs.Laws.Run as Runs
-use Rattle.verdicts.specs.Verdict.{Step, firstFailing, Facts, factsOf, Rulebook, signatureRules, sealRules, makerOut, judged, verdict, toldVerdict}
+use Rattle.verdicts.specs.Verdict.{Step, firstFailing, Facts, factsOf, stamped, Rulebook, signatureRules, sealRules, makerOut, judged, verdict, toldVerdict}
 use Rattle.verdicts.specs.Findings.{allReal}
-use Rattle.verdicts.specs.Laws.Verdict.{FirstFailing, takesNotice}
+use Rattle.verdicts.specs.Laws.Verdict.{FirstFailing, isOfStamp, unstampedSteps, takesNotice}
 use Rattle.verdicts.specs.Laws.Verdict as Verdict
 use Rattle.verdicts.specs.declared.Findings.{Findings}
 
@@ -340,6 +340,13 @@ module _ (b : Rulebook) (w : List ℕ) (f : Findings) (original signer : List �
         → (toldVerdict (verdict b w f original signer) ≡ told-one (answer .number) (bit (answer .carries && makerOut facts))) × FirstFailing (b .steps) (b .passed) facts answer
     unfolding verdict judged
     verdict-is-the-first h = (rw (e, Verdict.weigh-judged b v f original signer h), Verdict.first-failing (b .steps) (b .passed) facts)
+
+-- "With no stamp in the record 32 to 34 never arise.": the answer has none of these numbers, and is the first failing row of the table without their rows
+pub no-stamp-no-step-h : (x : Facts) → stamped x ≡ false
+    → (isOfStamp (firstFailing (signatureRules .steps) (signatureRules .passed) x .number) ≡ false)
+    × FirstFailing unstampedSteps (signatureRules .passed) x (firstFailing (signatureRules .steps) (signatureRules .passed) x)
+no-stamp-no-step-h x h =
+    (Verdict.unstamped-number x h, rw (Verdict.unstamped-answer x h) (Verdict.first-failing unstampedSteps (signatureRules .passed) x))
 
 -- "A notice goes with 0 and 26 to 34"; the seal verdict "gives no notice"
 pub notice-goes-with : (x : Facts) → firstFailing (signatureRules .steps) (signatureRules .passed) x .carries ≡ takesNotice (firstFailing (signatureRules .steps) (signatureRules .passed) x .number)

@@ -65,7 +65,10 @@ dated a z = certificate true true a z Never
 abbrev revoked : ℕ → CertificateFacts
 revoked t = certificate true true 20230101000000 20251231235959 (At t)
 
--- in force from the second after G's now; its chain not good; its usage not good
+-- its first date after its last; in force from the second after G's now; its chain not good; its usage not good
+abbrev backward : CertificateFacts
+backward = dated 20251231235959 20230101000000
+
 abbrev late : CertificateFacts
 late = dated 20240701000001 20251231235959
 
@@ -95,6 +98,10 @@ signedIn2023 = set recordS 129 0x33
 abbrev signedIn2025 : List ℕ
 signedIn2025 = set recordS 129 0x35
 
+-- S whose seal has a start, in 2025, after its end, in 2023
+abbrev emptyPeriod : List ℕ
+emptyPeriod = set (set recordS 64 0x35) 81 0x33
+
 -- S with another signer certificate, AB, than the one in its list, AA
 abbrev unlisted : List ℕ
 unlisted = set recordS 150 0xAB
@@ -110,11 +117,14 @@ rowsS =
     ∷ (onS (madeBy bad), plain 24)
     ∷ (toldVerdict (verdict signatureRules signedIn2023 (madeBy late) dd []), notice 26)
     ∷ (toldVerdict (verdict signatureRules signedIn2025 (madeBy late) dd []), plain 26)
+    -- "a start after its end makes an empty period, no refusal"
+    ∷ (toldVerdict (verdict signatureRules emptyPeriod G dd []), plain 26)
     ∷ (onS (withdrawn 20240630120000), plain 27)
     ∷ (onS (withdrawn 20240630120001), plain 0)
     ∷ (onS (signedBy unchained), plain 28)
     ∷ (onS (findings true true 20240701000000 late bad Never Unchecked), notice 28)
     ∷ (onS (signedBy late), plain 29)
+    ∷ (onS (signedBy backward), plain 29)
     ∷ (toldVerdict (verdict signatureRules recordS G (0xDE ∷ []) []), plain 31)
     -- first ≤ t ≤ last: signer and maker in force in the one second of the signing
     ∷ (onS (findings true true 20240701000000 (dated 20240630120000 20240630120000) (dated 20240630120000 20240630120000) Never Unchecked), plain 0)
@@ -238,12 +248,15 @@ rowsSeal =
     ∷ (onSeal (findings false true 20240701000000 c bad (At 20240101000000) Bad), plain 0)
     ∷ (onSeal (madeBy unchained), plain 24)
     ∷ (onSeal (madeBy late), plain 25)
+    ∷ (onSeal (madeBy backward), plain 25)
     ∷ (onSeal (madeBy (revoked 20240101000000)), plain 25)
     -- "Both ends of a seal's period belong to it"
     ∷ (onSeal (judgedAt 20231231235959), plain 26)
     ∷ (onSeal (judgedAt 20240101000000), plain 0)
     ∷ (onSeal (judgedAt 20241231235959), plain 0)
     ∷ (onSeal (judgedAt 20250101000000), plain 26)
+    -- its start after its end
+    ∷ (toldVerdict (verdict sealRules (set (set sealS 55 0x35) 72 0x33) G [] []), plain 26)
     ∷ (onSeal (signedBy (dated 20230230000000 20251231235959)), refusal 18 0)
     ∷ []
 

@@ -6,14 +6,14 @@ use mathlib.Core.Bool.{Bool, true, false, not, _&&_, _||_}
 use mathlib.Core.Option.{Option, none, some}
 use mathlib.Core.List.{List, [], _∷_}
 use lib.Dec.{T, leb, eqb}
-use Rattle.terms.specs.Numbers.{valid, unreal-time, outside-period, signer-out-at-stamp}
-use Rattle.terms.specs.Answer.{good, fault, every}
-use Rattle.terms.specs.Laws.Answer.{and-l, and-r, pick-yes, pick-no}
+use Rattle.terms.specs.Numbers.{valid, unreal-time, outside-period, stamp-bad, signer-out-at-stamp}
+use Rattle.terms.specs.Answer.{good, fault, every, pick}
+use Rattle.terms.specs.Laws.Answer.{never, and-l, and-r, pick-yes, pick-no}
 use Rattle.layouts.specs.Layout.{Values, All}
 use Rattle.layouts.specs.Fields.{first}
 use Rattle.layouts.specs.Laws.Fields.{None, First, Sought, first-sought, first-holds}
 use Rattle.verdicts.specs.Findings.{allReal}
-use Rattle.verdicts.specs.Verdict.{Step, orElse, firstFailing, Facts, factsOf, Rulebook, signatureRules, sealRules, judged, weigh}
+use Rattle.verdicts.specs.Verdict.{Step, orElse, firstFailing, Facts, factsOf, stamped, Rulebook, signatureRules, sealRules, judged, weigh}
 use Rattle.verdicts.specs.declared.Findings.{Findings}
 use Rattle.verdicts.specs.declared.Verdict.the-variants.{Refused}
 
@@ -77,6 +77,66 @@ signature-notice x = carried (λ s. takesNotice (s .number)) signatureRules x tt
 pub seal-notice : (x : Facts) → firstFailing (sealRules .steps) (sealRules .passed) x .carries ≡ false
 unfolding same-bool every agrees
 seal-notice x = carried (λ s. false) sealRules x tt
+
+-- ---- rows that cannot fail
+
+-- a table without some of its rows
+unfoldable pub without : {A : Type 0} → (Step A → Bool) → List (Step A) → List (Step A)
+without k [] = []
+without k (s ∷ ss) = pick (k s) (without k ss) (s ∷ without k ss)
+
+module _ {A : Type 0} (k : Step A → Bool) where
+  none-left : (ss : List (Step A)) → All (λ s. k s ≡ false) (without k ss)
+  unfolding without pick
+  none-left [] = tt
+  none-left (s ∷ ss) = go (k s) refl (none-left ss)
+    where
+      go : (b : Bool) → k s ≡ b → All (λ s. k s ≡ false) (without k ss) → All (λ s. k s ≡ false) (pick b (without k ss) (s ∷ without k ss))
+      go true e h = h
+      go false e h = (e, h)
+
+  -- rows that do not fail may be left out
+  first-without : (x : A) (ss : List (Step A)) → All (λ s. k s ≡ true → s .fails x ≡ false) ss → first (λ s. s .fails x) ss ≡ first (λ s. s .fails x) (without k ss)
+  unfolding without first pick
+  first-without x [] h = refl
+  first-without x (s ∷ ss) h = go (k s) (h .0) (first-without x ss (h .1))
+    where
+      go : (b : Bool) → (b ≡ true → s .fails x ≡ false) → first (λ s. s .fails x) ss ≡ first (λ s. s .fails x) (without k ss)
+          → pick (s .fails x) (some s) (first (λ s. s .fails x) ss) ≡ first (λ s. s .fails x) (pick b (without k ss) (s ∷ without k ss))
+      go true f e = rw (f refl) e
+      go false f e = rw e
+
+  failing-without : (x : A) (ss : List (Step A)) (passed : Step A) → All (λ s. k s ≡ true → s .fails x ≡ false) ss → firstFailing ss passed x ≡ firstFailing (without k ss) passed x
+  unfolding firstFailing
+  failing-without x ss passed h = rw (first-without x ss h)
+
+-- ---- with no stamp in the record
+
+-- "32 to 34"
+unfoldable pub isOfStamp : ℕ → Bool
+isOfStamp n = leb stamp-bad n && leb n signer-out-at-stamp
+
+abbrev pub unstampedSteps : List (Step Facts)
+unstampedSteps = without (λ s. isOfStamp (s .number)) (signatureRules .steps)
+
+another : {X : Type 0} → false ≡ true → X
+another e = never (cc)
+
+-- the answer is the first failing row of the table without those three, and has none of their numbers
+module _ (x : Facts) (h : stamped x ≡ false) where
+  stamp-rows-pass : All (λ s. isOfStamp (s .number) ≡ true → s .fails x ≡ false) (signatureRules .steps)
+  unfolding isOfStamp
+  stamp-rows-pass =
+      (another, (another, (another, (another, (another, (another, (another, (another, (another, (another, (λ e. rw h, (λ e. rw h, (λ e. rw h, tt)))))))))))))
+
+  pub unstamped-answer : firstFailing (signatureRules .steps) (signatureRules .passed) x ≡ firstFailing unstampedSteps (signatureRules .passed) x
+  unstamped-answer = failing-without (λ s. isOfStamp (s .number)) x (signatureRules .steps) (signatureRules .passed) stamp-rows-pass
+
+  pub unstamped-number : isOfStamp (firstFailing (signatureRules .steps) (signatureRules .passed) x .number) ≡ false
+  unfolding isOfStamp
+  unstamped-number =
+      rw unstamped-answer
+      (failing-holds (λ s. isOfStamp (s .number) ≡ false) unstampedSteps (signatureRules .passed) x (none-left (λ s. isOfStamp (s .number)) (signatureRules .steps)) refl)
 
 -- ---- what the verdict is, case by case
 
