@@ -13,6 +13,7 @@ use Rattle.terms.specs.declared.Field.{Field}
 use Rattle.terms.specs.Answer.{pick}
 use Rattle.terms.specs.Laws.Answer.{never, test}
 use Rattle.heads.specs.Head.{forms, octets, spell}
+use Rattle.heads.specs.Laws.Head.{unspelled}
 use Rattle.tags.specs.declared.Tag.{Tag}
 use Rattle.tags.specs.Tag.{tagByte}
 use Rattle.layouts.specs.Layout.{Item, node, list, wrap, Members, tagOf}
@@ -199,12 +200,12 @@ module _ (from to : Side) (s : List ℕ) (n p e : ℕ) (d : List ℕ) (o : ℕ) 
 -- ---- an item that holds others
 
 -- a length that cannot be written is not written, so that a measured size serves also where it stopped at the cap
-octets-large : (n : ℕ) → 65536 ≤ n → octets forms n ≡ []
+octets-large : (n : ℕ) → unspelled ≤ n → octets forms n ≡ []
 unfolding octets spell pick
 octets-large n h =
     let a : 128 ≤ n = omega arith in
     let b : 256 ≤ n = omega arith in
-    rw (le-ltb n 128 a, le-ltb n 256 b, le-ltb n 65536 h)
+    rw (le-ltb n 128 a, le-ltb n 256 b, le-ltb n unspelled h)
 
 octets-capped : (n : ℕ) → octets forms (advance 0 n) ≡ octets forms n
 octets-capped n =

@@ -12,7 +12,7 @@ use Rattle.terms.specs.Numbers.{too-large, no-room, bad-sheet, left-over, large
 use Rattle.terms.specs.Answer.{Res, good, fault, Got, got, bind, need, answered}
 use Rattle.terms.specs.Laws.Answer.{never, good-inj, by-bind, bind-eq, test}
 use Rattle.heads.specs.Head.{Cut, forms, head}
-use Rattle.heads.specs.Laws.Head.{outermost-back}
+use Rattle.heads.specs.Laws.Head.{unspelled, outermost-back}
 use Rattle.heads.specs.declared.Step.{Step}
 use Rattle.heads.specs.declared.Step.the-variants.{Next, Refused}
 use Rattle.layouts.specs.Layout.{Item, node, Members, Values, encode}
@@ -112,7 +112,7 @@ node-sheet : (r : Members) (v : Values r) → sheet (node sequence r) v ≡ shee
 unfolding sheet
 node-sheet r v = refl
 
-node-short : (r : Members) → T (clear (node sequence r)) → (v : Values r) → length (recordOf r v) < 65536 → length (sheet (node sequence r) v) ≤ 8 * length (recordOf r v) + 0
+node-short : (r : Members) → T (clear (node sequence r)) → (v : Values r) → length (recordOf r v) < unspelled → length (sheet (node sequence r) v) ≤ 8 * length (recordOf r v) + 0
 unfolding encode
 node-short r k v h = short (node sequence r) k v h
 
@@ -132,7 +132,7 @@ sheet-sent r s k v h room =
     let m : move side.Record side.Sheet (node sequence r) s 0 (length s) .1 ≡ sheets r v =
     ap (λ (q : Moved). q .1) (move-read s side.Sheet (node sequence r) 0 (length s) (omega arith) (omega arith) (got y (c .rest) (next c)) z) ∙ node-sheet r y ∙ ap (sheets r) g in
     let a = accept-back largest-record r s v h in
-    let q : length (recordOf r v) ≤ 65535 = rw (← a .0) (a .2) in
+    let q : length (recordOf r v) ≤ largest-record = rw (← a .0) (a .2) in
     let b : length (sheets r v) ≤ 8 * length (recordOf r v) + 0 = rw (← node-sheet r v) (node-short r k v (omega arith)) in
     let f : length (sheets r v) ≤ 4294967295 = omega arith in
     rw (m, le-leb (length (sheets r v)) 4294967295 f) (sym (bind-eq _ h))
@@ -183,7 +183,7 @@ node-record r v = refl
 
 -- the record of an accepted sheet
 record-sent : (r : Members) (s : List ℕ) (v : Values r) → acceptSheet r s ≡ good v → (room : ℕ)
-    → sent 65535 (move side.Sheet side.Record (node sequence r) s 0 (length s) .1) room ≡ writeRecord largest-record r s room
+    → sent largest-record (move side.Sheet side.Record (node sequence r) s 0 (length s) .1) room ≡ writeRecord largest-record r s room
 unfolding acceptSheet writeRecord sent
 record-sent r s v h room =
     by-bind _ _ _ h λ a e₁ e₂.
@@ -209,12 +209,12 @@ module _ (x : Record) (s d : List ℕ) (m : Members) (i : m ≡ layoutOf x) (o :
   write-kept n p h = rw (untaken n p h)
 
   module _ (l : ℕ) (h : o ≡ Next l) (j : Item) (k : j ≡ node sequence (layoutOf x)) (y : Outcome) (d′ : List ℕ)
-      (e : (y, d′) ≡ ends (sent 65535 (move side.Sheet side.Record j s 0 (length s) .1) (length d)) d) where
-    written : sent 65535 (move side.Sheet side.Record j s 0 (length s) .1) (length d) ≡ writeRecord largest-record (layoutOf x) s (length d)
+      (e : (y, d′) ≡ ends (sent largest-record (move side.Sheet side.Record j s 0 (length s) .1) (length d)) d) where
+    written : sent largest-record (move side.Sheet side.Record j s 0 (length s) .1) (length d) ≡ writeRecord largest-record (layoutOf x) s (length d)
     written = go (acceptSheet (layoutOf x) s) refl (sym h ∙ (rw i at t))
       where
         go : (a : Res (Values (layoutOf x))) → acceptSheet (layoutOf x) s ≡ a → Next l ≡ whole (length s) a
-            → sent 65535 (move side.Sheet side.Record j s 0 (length s) .1) (length d) ≡ writeRecord largest-record (layoutOf x) s (length d)
+            → sent largest-record (move side.Sheet side.Record j s 0 (length s) .1) (length d) ≡ writeRecord largest-record (layoutOf x) s (length d)
         go (good v) a u = rw k (record-sent (layoutOf x) s v a (length d))
         go (fault n p) a u = never (cc)
 
