@@ -16,7 +16,6 @@ use Rattle.terms.specs.Answer.{Res, good, fault, pick, bind, need, have, every}
 use Rattle.terms.specs.Digits.{numberFrom, leading}
 use Rattle.terms.specs.Laws.Answer.{never}
 use Rattle.heads.specs.declared.Seen.the-variants.{Item as At, Refused as Bad}
-use Rattle.contents.specs.Leaves.{bytes, number}
 use Rattle.layouts.specs.Sheet.{count-bytes, count, readCount, readSection}
 use Rattle.layouts.specs.SheetScan.{counted, countAt, listCountAt, sectionAt}
 use Rattle.layouts.specs.declared.Tally.{Tally}

@@ -13,7 +13,6 @@ use mir.Facts.{toZ-ofZ}
 use borrow.Author.Tests.{le-ltb, le-leb}
 use Rattle.terms.specs.Numbers.{bad-integer, not-allowed}
 use Rattle.terms.specs.Answer.{same}
-use Rattle.terms.specs.Digits.{number}
 use Rattle.contents.specs.Integer.{fromOne}
 use Rattle.contents.specs.Content.{ask, placeOf}
 use Rattle.contents.specs.Rules.{integerRule, also, onlyRule}

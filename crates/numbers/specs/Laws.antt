@@ -16,7 +16,7 @@ use mir.Facts.{toZ-pos, toZ-ofZ}
 use borrow.Author.Tests.{lt-ltb, le-ltb, le-leb, lt-leb, not-true, not-false}
 use Rattle.terms.specs.Answer.{pick}
 use Rattle.terms.specs.Laws.Answer.{never, test, is-true, is-false, pick-yes, pick-no}
-use Rattle.terms.specs.Digits.{digits, numberFrom, number}
+use Rattle.terms.specs.Digits.{numberFrom, number}
 use Rattle.terms.specs.Laws.Digits.{pow-pos}
 use Rattle.contents.specs.Integer.{sign, shortest, wellFormed, turned, value, shrink}
 use Rattle.numbers.specs.Number.{digitOf, turnedIf, numberOf, numberAt}

@@ -17,7 +17,7 @@ use Rattle.contents.specs.Integer.{wellFormed, value}
 use Rattle.numbers.specs.Number.{numberOf, numberAt}
 use Rattle.numbers.specs.declared.Number.{Number as Read}
 use Rattle.numbers.specs.declared.Number.the-variants.{Value as Good, Bad}
-use Rattle.layouts.specs.Fields.{Entry, isField, first}
+use Rattle.layouts.specs.Fields.{Entry, isField}
 use Rattle.layouts.specs.Laws.Fields.{first-holds}
 use Rattle.records.specs.declared.Record.{Record}
 use Rattle.records.specs.declared.Part.{Part}

@@ -1,6 +1,6 @@
 -- An accepted item notes its fields in the table of places: `marks` agrees with `itemFields`, for every layout. Assumes nothing.
 use mathlib.Core.Path.{_≡_, refl, ap, _∙_}
-use Prim.Native.Nat.{ℕ, suc, zero, _+_, _-_, _≤_}
+use Prim.Native.Nat.{ℕ, suc, zero, _+_, _≤_}
 use native.Mathlib.Omega.{arith}
 use mathlib.Core.Bool.{Bool, true, false, _||_}
 use mathlib.Core.List.{List, [], _∷_, _++_, append-nil}
@@ -32,11 +32,6 @@ notes-append : (xs ys : List Entry) (d : List ℕ) → notes (xs ++ ys) d ≡ no
 unfolding notes
 notes-append [] ys d = refl
 notes-append (x ∷ xs) ys d = notes-append xs ys (noted (x .name) (x .index) (x .place) (x .place + length (x .bytes)) (x .items) d)
-
--- a field is noted by where it starts and how far it is to its end
-noted-alike : (f : Field) (k a b y z n : ℕ) (d : List ℕ) → a ≡ b → y - a ≡ z - b → noted f k a y n d ≡ noted f k b z n d
-unfolding noted
-noted-alike f k a b y z n d h q = rw (q, h)
 
 -- one of two, where the same test decided the reading
 by-pick : {A B : Type 0} (t : Bool) (r r′ : Res A) (a : A) (x x′ y : B) → pick t r r′ ≡ good a → (r ≡ good a → x ≡ y) → (r′ ≡ good a → x′ ≡ y) → pick t x x′ ≡ y
