@@ -1,0 +1,49 @@
+-- `packs::critical`: case by case.
+use borrow.Author.Needs.{needs}
+use Rattle.packs.proofs.critical.Statement.{statement}
+use Rattle.packs.proofs.critical.Tie as tie
+
+enum-known-x : tie.Need-enum-known-x
+enum-known-x c = search needs
+
+cast-pack : tie.Need-cast-pack
+cast-pack c = search needs
+
+pack-requires : tie.Need-pack-requires
+pack-requires c κs = search needs
+
+enum-told : tie.Need-enum-told
+enum-told c = search needs
+
+pack-requires-2 : tie.Need-pack-requires-2
+pack-requires-2 c κs = search needs
+
+enum-known-x-2 : tie.Need-enum-known-x-2
+enum-known-x-2 c = search needs
+
+refused-requires : tie.Need-refused-requires
+refused-requires c κs = search needs
+
+returns : tie.Need-returns
+returns c = cc
+
+returns-2 : tie.Need-returns-2
+returns-2 c = cc
+
+returns-3 : tie.Need-returns-3
+returns-3 c = cc
+
+pub critical-spec : {M : Type 1} → statement M
+critical-spec =
+    tie.close
+    (tie.spec
+    enum-known-x
+    cast-pack
+    pack-requires
+    enum-told
+    pack-requires-2
+    enum-known-x-2
+    refused-requires
+    returns
+    returns-2
+    returns-3)
