@@ -148,7 +148,10 @@ pub fn step(m: Moved) -> u64
 {
     let answer = m.answer;
     match answer {
-        Stepped::Record { start: _, length: _ } => pack(DONE, m.position as u64),
+        Stepped::Record {
+            start: _,
+            length: _,
+        } => pack(DONE, m.position as u64),
         Stepped::End => pack(RUN_END, m.position as u64),
         Stepped::Refused(number, place, _) => refused(number, place),
     }
