@@ -4,7 +4,14 @@ ghost use mathlib.Core.Path.{_≡_};
 ghost use Rattle.records.specs.Record.{seal, signature};
 ghost use Rattle.records.specs.Handing.{recordAnswer, fillAnswer, fillAfter, writeAnswer, writeAfter};
 ghost use Rattle.runs.specs.Run.{at, runAnswer, stepAnswer, stepAfter};
-ghost use Rattle.packs.specs.Packed.{packedFirst, packedStep, recordsTold};
+ghost use Rattle.verdicts.specs.Verdict.{sealRules, signatureRules};
+ghost use Rattle.packs.specs.Packed.{packedNumber, packedFirst, packedSecond, packedStep, recordsTold, valueTold};
+ghost use Rattle.ennavizhil.specs.Asked.{kindOf, askedField, askedMatch, askedValue, askedCritical, askedCount, askedVerdict};
+
+mod asked;
+
+// The number of what is not findings.
+const NOT_FINDINGS: u64 = 253;
 
 // A seal read: its length, or the first refusal.
 #[no_mangle]
@@ -80,4 +87,100 @@ pub extern "C" fn ennavizhil_signature_write(sheet: &[u8], record: &mut [u8]) ->
     ensures { λ _. ⌜ now («record» .exit) ≡ writeAfter signature (now (sheet .entry)) (now («record» .entry)) ⌝ }
 {
     packs::outcome(sheets::write(sheet, Record::Signature, record))
+}
+
+// Where a field begins, by its number and its index in a list.
+#[no_mangle]
+pub extern "C" fn ennavizhil_field_start(kind: u8, record: &[u8], field: u8, index: usize) -> u64
+    ensures { λ r. ⌜ r ≡ packedFirst (askedField kind field index (now («record» .entry))) ⌝ }
+{
+    packs::start(asked::part(kind, record, field, index))
+}
+
+// How long a field is.
+#[no_mangle]
+pub extern "C" fn ennavizhil_field_length(kind: u8, record: &[u8], field: u8, index: usize) -> u64
+    ensures { λ r. ⌜ r ≡ packedSecond (askedField kind field index (now («record» .entry))) ⌝ }
+{
+    packs::length(asked::part(kind, record, field, index))
+}
+
+// Whether an integer is there.
+#[no_mangle]
+pub extern "C" fn ennavizhil_value_check(kind: u8, record: &[u8], field: u8) -> u64
+    ensures { λ r. ⌜ r ≡ packedNumber (askedValue kind field (now («record» .entry))) ⌝ }
+{
+    packs::integer(asked::integer(kind, record, field))
+}
+
+// An integer, 0 where there is none.
+#[no_mangle]
+pub extern "C" fn ennavizhil_value(kind: u8, record: &[u8], field: u8) -> i64
+    ensures { λ r. ⌜ r ≡ valueTold (askedValue kind field (now («record» .entry))) ⌝ }
+{
+    packs::value(asked::integer(kind, record, field))
+}
+
+// Whether a custom item is critical, as 0 or 1.
+#[no_mangle]
+pub extern "C" fn ennavizhil_critical(kind: u8, record: &[u8], field: u8, index: usize) -> u64
+    ensures { λ r. ⌜ r ≡ packedFirst (askedCritical (kindOf kind) field index (now («record» .entry))) ⌝ }
+{
+    packs::critical(asked::critical(kind, record, field, index))
+}
+
+// How many items a list has.
+#[no_mangle]
+pub extern "C" fn ennavizhil_count(kind: u8, record: &[u8], field: u8) -> u64
+    ensures { λ r. ⌜ r ≡ packedFirst (askedCount (kindOf kind) field (now («record» .entry))) ⌝ }
+{
+    packs::items(asked::items(kind, record, field))
+}
+
+// Where the first entry of the certificate list begins that is the given bytes.
+#[no_mangle]
+pub extern "C" fn ennavizhil_matching_start(kind: u8, record: &[u8], given: &[u8]) -> u64
+    ensures { λ r. ⌜ r ≡ packedFirst (askedMatch kind (now (given .entry)) (now («record» .entry))) ⌝ }
+{
+    packs::start(asked::matching_entry(kind, record, given))
+}
+
+// How long it is.
+#[no_mangle]
+pub extern "C" fn ennavizhil_matching_length(kind: u8, record: &[u8], given: &[u8]) -> u64
+    ensures { λ r. ⌜ r ≡ packedSecond (askedMatch kind (now (given .entry)) (now («record» .entry))) ⌝ }
+{
+    packs::length(asked::matching_entry(kind, record, given))
+}
+
+// The verdict on a seal, by 19 numbers that are the findings and the two digests.
+#[no_mangle]
+pub extern "C" fn ennavizhil_seal_verdict(
+    record: &[u8],
+    original: &[u8],
+    signer: &[u8],
+    findings: &[u64],
+) -> u64
+    ensures { λ r. ⌜ r ≡ packedFirst (askedVerdict sealRules (now («record» .entry)) (now (original .entry)) (now (signer .entry)) (now (findings .entry))) ⌝ }
+{
+    if !given_findings::are_findings(findings) {
+        return NOT_FINDINGS;
+    }
+    packs::verdict(judges::seal(record, given_findings::findings(findings), original, signer))
+}
+
+// The verdict on a signature record.
+#[no_mangle]
+pub extern "C" fn ennavizhil_signature_verdict(
+    record: &[u8],
+    original: &[u8],
+    signer: &[u8],
+    findings: &[u64],
+) -> u64
+    ensures { λ r. ⌜ r ≡ packedFirst (askedVerdict signatureRules (now («record» .entry)) (now (original .entry)) (now (signer .entry)) (now (findings .entry))) ⌝ }
+{
+    if !given_findings::are_findings(findings) {
+        return NOT_FINDINGS;
+    }
+    packs::verdict(judges::signature(record, given_findings::findings(findings), original, signer))
 }

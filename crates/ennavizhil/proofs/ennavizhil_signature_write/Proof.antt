@@ -1,3 +1,4 @@
+-- `ennavizhil::ennavizhil_signature_write`: the answer, packed.
 use Rattle.ennavizhil.specs.Laws.{first-is}
 use borrow.Author.Needs.{needs}
 use Rattle.ennavizhil.proofs.ennavizhil_signature_write.Statement.{statement}

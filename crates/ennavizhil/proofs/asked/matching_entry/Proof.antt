@@ -1,0 +1,17 @@
+-- `ennavizhil::asked::matching_entry`: in the record of the kind.
+use Rattle.ennavizhil.specs.Laws.{match-by}
+use borrow.Author.Needs.{needs}
+use Rattle.ennavizhil.proofs.asked.matching_entry.Statement.{statement}
+use Rattle.ennavizhil.proofs.asked.matching_entry.Tie as tie
+
+kind-of-requires : tie.Need-kind-of-requires
+kind-of-requires c κs = search needs
+
+find-requires : tie.Need-find-requires
+find-requires c κs = search needs
+
+returns : tie.Need-returns
+returns c = search (needs, match-by)
+
+pub matching-entry-spec : {M : Type 1} → statement M
+matching-entry-spec = tie.close (tie.spec kind-of-requires find-requires returns)
