@@ -6,9 +6,8 @@ ghost use Rattle.records.specs.Handing.{recordAnswer, fillAnswer, fillAfter, wr
 ghost use Rattle.runs.specs.Run.{at, runAnswer, stepAnswer, stepAfter};
 ghost use Rattle.verdicts.specs.Verdict.{sealRules, signatureRules};
 ghost use Rattle.packs.specs.Packed.{packedNumber, packedFirst, packedSecond, packedStep, recordsTold, valueTold};
-ghost use Rattle.ennavizhil.specs.Asked.{kindOf, askedField, askedMatch, askedValue, askedCritical, askedCount, askedVerdict};
-
-mod asked;
+ghost use Rattle.asked.specs.Asked.{kindOf, askedField, askedMatch, askedValue, askedCritical, askedCount};
+ghost use Rattle.ennavizhil.specs.Judged.{askedVerdict};
 
 // The number of what is not findings.
 const NOT_FINDINGS: u64 = 253;
