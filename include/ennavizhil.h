@@ -134,6 +134,13 @@ uint64_t ennavizhil_count(uint8_t kind, const uint8_t *record, size_t record_len
 uint64_t ennavizhil_matching_start(uint8_t kind, const uint8_t *record, size_t record_length, const uint8_t *given, size_t given_length);
 uint64_t ennavizhil_matching_length(uint8_t kind, const uint8_t *record, size_t record_length, const uint8_t *given, size_t given_length);
 
+/* All fields by one call: the table of places of a record, 173 numbers at the start of a destination, which is left as it is where the answer is not 0. Under
+ * a field's number f, from 4 * f on: 1 if the field is there, else 0; where it begins; how many bytes it has; of a list how many items. Of a field in a
+ * list it is the item of the index; the index stands last. With 0 the length of the record; 20 with 173 where the destination has fewer numbers. */
+enum { ENNAVIZHIL_TABLE = 173 };
+uint64_t ennavizhil_seal_places(const uint8_t *record, size_t record_length, size_t index, size_t *table, size_t table_length);
+uint64_t ennavizhil_signature_places(const uint8_t *record, size_t record_length, size_t index, size_t *table, size_t table_length);
+
 /* The findings are 19 numbers; a flag is 0 or 1, a time a whole number whose fourteen decimal digits are YYYYMMDDhhmmss. A time that does not apply, as that
  * of a revocation that is not there, is not looked at. */
 enum {

@@ -249,6 +249,22 @@ static int house(void) {
         int bounded = strchr("\x01\x03\x04\x07\x09\x0a\x0d\x0f\x11", (int)i) != NULL;
         expect("a finding outside its values", num(ennavizhil_seal_verdict(s, n, NULL, 0, NULL, 0, findings, ENNAVIZHIL_FINDINGS)), bounded ? 253 : 2);
     }
+    for (size_t index = 0; index < 3; index++) {
+        size_t table[ENNAVIZHIL_TABLE + 1];
+        for (size_t i = 0; i <= ENNAVIZHIL_TABLE; i++) table[i] = 7;
+        expect("a table that is too short", ennavizhil_signature_places(s, n, index, table, ENNAVIZHIL_TABLE - 1), (uint64_t)ENNAVIZHIL_TABLE << 8 | 20);
+        expect("a table of a refused record", num(ennavizhil_seal_places(s, n, index, table, ENNAVIZHIL_TABLE)), 2);
+        for (size_t i = 0; i <= ENNAVIZHIL_TABLE; i++) expect("a table that is kept", table[i], 7);
+        expect("a table", ennavizhil_signature_places(s, n, index, table, ENNAVIZHIL_TABLE + 1), (uint64_t)n << 8);
+        expect("what follows a table", table[ENNAVIZHIL_TABLE], 7);
+        expect("the index of a table", table[ENNAVIZHIL_TABLE - 1], index);
+        for (uint8_t f = 0; f < 43; f++) {
+            uint64_t start = ennavizhil_field_start(1, s, n, f, index), length = ennavizhil_field_length(1, s, n, f, index);
+            expect("a field of a table", table[4 * f], num(start) == 0);
+            expect("the start of a field of a table", table[4 * f + 1], num(start) == 0 ? ennavizhil_above(start) : 0);
+            expect("the length of a field of a table", table[4 * f + 2], num(start) == 0 ? ennavizhil_above(length) : 0);
+        }
+    }
     if (wrong == 0) printf("%d answers that no case asks for, 0 differences\n", right);
     return wrong == 0 ? 0 : 1;
 }

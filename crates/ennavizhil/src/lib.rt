@@ -1,4 +1,4 @@
-// The static library: what the crates answer, for C, with numbers and byte slices only.
+// The static library: what the crates answer, for C, with numbers and slices of numbers only.
 use records::Record;
 ghost use mathlib.Core.Path.{_≡_};
 ghost use Rattle.records.specs.Record.{seal, signature};
@@ -7,6 +7,7 @@ ghost use Rattle.runs.specs.Run.{at, runAnswer, stepAnswer, stepAfter};
 ghost use Rattle.verdicts.specs.Verdict.{sealRules, signatureRules};
 ghost use Rattle.packs.specs.Packed.{packedNumber, packedFirst, packedSecond, packedStep, recordsTold, valueTold};
 ghost use Rattle.asked.specs.Asked.{kindOf, askedField, askedMatch, askedValue, askedCritical, askedCount};
+ghost use Rattle.place_tables.specs.Table.{tableAnswer, TableAfter};
 ghost use Rattle.ennavizhil.specs.Judged.{askedVerdict};
 
 // The number of what is not findings.
@@ -150,6 +151,28 @@ pub extern "C" fn ennavizhil_matching_length(kind: u8, record: &[u8], given: &[u
     ensures { λ r. ⌜ r ≡ packedSecond (askedMatch kind (now (given .entry)) (now («record» .entry))) ⌝ }
 {
     packs::length(asked::matching_entry(kind, record, given))
+}
+
+// The table of places of a seal, in a destination: the length of the seal, or the refusal.
+#[no_mangle]
+pub extern "C" fn ennavizhil_seal_places(record: &[u8], index: usize, table: &mut [usize]) -> u64
+    ensures { λ r. ⌜ r ≡ packedFirst (tableAnswer seal (now («record» .entry)) (now (table .entry))) ⌝ }
+    ensures { λ _. ⌜ TableAfter seal (now («record» .entry)) index (now (table .entry)) (now (table .exit)) ⌝ }
+{
+    packs::outcome(place_tables::fill(record, Record::Seal, index, table))
+}
+
+// The table of places of a signature record, in a destination.
+#[no_mangle]
+pub extern "C" fn ennavizhil_signature_places(
+    record: &[u8],
+    index: usize,
+    table: &mut [usize],
+) -> u64
+    ensures { λ r. ⌜ r ≡ packedFirst (tableAnswer signature (now («record» .entry)) (now (table .entry))) ⌝ }
+    ensures { λ _. ⌜ TableAfter signature (now («record» .entry)) index (now (table .entry)) (now (table .exit)) ⌝ }
+{
+    packs::outcome(place_tables::fill(record, Record::Signature, index, table))
 }
 
 // The verdict on a seal, by 19 numbers that are the findings and the two digests.

@@ -14,13 +14,13 @@ enum-told-2 : tie.Need-enum-told-2
 enum-told-2 c = search needs
 
 returns : tie.Need-returns
-returns c = search (needs, value-there, value-absent, value-refused)
+returns c = search (needs, value-there)
 
 returns-2 : tie.Need-returns-2
-returns-2 c = search (needs, value-there, value-absent, value-refused)
+returns-2 c = search (needs, value-absent)
 
 returns-3 : tie.Need-returns-3
-returns-3 c = search (needs, value-there, value-absent, value-refused)
+returns-3 c = search (needs, value-refused)
 
 pub value-spec : {M : Type 1} → statement M
 value-spec = tie.close (tie.spec enum-known-x enum-told enum-told-2 returns returns-2 returns-3)
