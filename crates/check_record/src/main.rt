@@ -3,15 +3,24 @@ use layouts::Outcome;
 use libc::STDOUT_FILENO;
 use streams::Input;
 
+// The line of a refusal.
+fn print_refusal(number: u8, place: usize) {
+    io::write_all(STDOUT_FILENO, b"REFUSED ");
+    io::print_decimal(STDOUT_FILENO, number as u64);
+    io::write_all(STDOUT_FILENO, b" ");
+    io::print_decimal(STDOUT_FILENO, place as u64);
+    io::write_all(STDOUT_FILENO, b"\n");
+}
+
 // The line of an outcome.
 fn print(outcome: Outcome) {
     match outcome {
         Outcome::Length(n) => {
-            io::write_all(STDOUT_FILENO, b"ACCEPTED");
-            streams::print_number(n as u64);
+            io::write_all(STDOUT_FILENO, b"ACCEPTED ");
+            io::print_decimal(STDOUT_FILENO, n as u64);
             io::write_all(STDOUT_FILENO, b"\n");
         }
-        Outcome::Refused(number, place) => streams::print_refusal(number, place),
+        Outcome::Refused(number, place) => print_refusal(number, place),
     }
 }
 

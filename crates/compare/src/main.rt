@@ -148,16 +148,22 @@ fn print(text: &[u8]) {
     io::write_all(STDOUT_FILENO, text);
 }
 
+// A space and a number.
+fn print_number(n: u64) {
+    print(b" ");
+    io::print_decimal(STDOUT_FILENO, n);
+}
+
 // A word and a number.
 fn print_one(word: &[u8], n: u64) {
     print(word);
-    streams::print_number(n);
+    print_number(n);
 }
 
 // A word and two numbers.
 fn print_two(word: &[u8], a: u64, b: u64) {
     print_one(word, a);
-    streams::print_number(b);
+    print_number(b);
 }
 
 // A refusal.

@@ -4,6 +4,15 @@ use libc::STDOUT_FILENO;
 use records::Record;
 use streams::Input;
 
+// The line of a refusal.
+fn print_refusal(number: u8, place: usize) {
+    io::write_all(STDOUT_FILENO, b"REFUSED ");
+    io::print_decimal(STDOUT_FILENO, number as u64);
+    io::write_all(STDOUT_FILENO, b" ");
+    io::print_decimal(STDOUT_FILENO, place as u64);
+    io::write_all(STDOUT_FILENO, b"\n");
+}
+
 // Reads the input into a buffer, fills the sheet from it and writes it. A sheet may have more bytes than its record: where it has more
 // than there is room for, the line says how many.
 fn main() {
@@ -18,6 +27,6 @@ fn main() {
         Outcome::Length(m) => {
             io::write_all(STDOUT_FILENO, &sheet[..m]);
         }
-        Outcome::Refused(number, place) => streams::print_refusal(number, place),
+        Outcome::Refused(number, place) => print_refusal(number, place),
     }
 }

@@ -1,10 +1,8 @@
-// Standard input and output as the programs have them: the input into a buffer, and the line of a refusal.
+// Standard input as the programs have it: the input into a buffer.
 use libc::STDIN_FILENO;
-use libc::STDOUT_FILENO;
 ghost use mathlib.Core.Path.{_≡_};
-ghost use Prim.Native.Nat.{_≤_, _<_};
+ghost use Prim.Native.Nat.{_≤_};
 ghost use lib.ListN.{length};
-ghost use Rattle.terms.specs.Numbers.{largest-record};
 ghost use Rattle.streams.specs.Input.{Reads, Filled};
 
 // What one read came to: so many bytes, the end of the input, or a failure.
@@ -37,9 +35,8 @@ fn read_some(buf: &mut [u8], at: usize) -> Read
     Read::More(n)
 }
 
-// Fills a buffer, which has room for more than the largest record, until it is full, the input ends or a read fails.
-pub fn fill(buf: &mut [u8]) -> Input
-    requires { ⌜ largest-record < length (now buf) ⌝ }
+// Reads into a buffer until it is full, the input ends or a read fails.
+fn read_into(buf: &mut [u8]) -> Input
     ensures { λ r. ⌜ Filled r (now (buf .exit)) ⌝ }
 {
     let mut n = 0;
@@ -54,16 +51,9 @@ pub fn fill(buf: &mut [u8]) -> Input
     Input::Bytes(n)
 }
 
-// A space and a number.
-pub fn print_number(n: u64) {
-    io::write_all(STDOUT_FILENO, b" ");
-    io::print_decimal(STDOUT_FILENO, n);
-}
-
-// The line of a refusal.
-pub fn print_refusal(number: u8, place: usize) {
-    io::write_all(STDOUT_FILENO, b"REFUSED");
-    print_number(number as u64);
-    print_number(place as u64);
-    io::write_all(STDOUT_FILENO, b"\n");
+// Fills a buffer, which has room for the largest record and one byte more, until it is full, the input ends or a read fails.
+pub fn fill(buf: &mut [u8; 65536]) -> Input
+    ensures { λ r. ⌜ Filled r (now (buf .exit)) ⌝ }
+{
+    read_into(buf)
 }

@@ -5,6 +5,15 @@ use libc::STDOUT_FILENO;
 use records::Record;
 use streams::Input;
 
+// The line of a refusal.
+fn print_refusal(number: u8, place: usize) {
+    io::write_all(STDOUT_FILENO, b"REFUSED ");
+    io::print_decimal(STDOUT_FILENO, number as u64);
+    io::write_all(STDOUT_FILENO, b" ");
+    io::print_decimal(STDOUT_FILENO, place as u64);
+    io::write_all(STDOUT_FILENO, b"\n");
+}
+
 // Reads the input into a buffer, goes there and back, and writes what came back.
 fn main() {
     let mut input = [0u8; 65536];
@@ -24,6 +33,6 @@ fn main() {
         Outcome::Length(m) => {
             io::write_all(STDOUT_FILENO, &back[..m]);
         }
-        Outcome::Refused(number, place) => streams::print_refusal(number, place),
+        Outcome::Refused(number, place) => print_refusal(number, place),
     }
 }

@@ -4,9 +4,6 @@ use borrow.Author.Needs.{needs}
 use Rattle.check_record.proofs.main.Statement.{statement}
 use Rattle.check_record.proofs.main.Tie as tie
 
-slice-aggregate-fill : tie.Need-slice-aggregate-fill
-slice-aggregate-fill c = search needs
-
 fill-requires : tie.Need-fill-requires
 fill-requires c κs = search needs
 
@@ -44,7 +41,6 @@ pub main-spec : {M : Type 1} → statement M
 main-spec =
     tie.close
     (tie.spec
-    slice-aggregate-fill
     fill-requires
     enum-known-n
     enum-told

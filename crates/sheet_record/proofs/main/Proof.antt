@@ -4,9 +4,7 @@ use Rattle.sheets.specs.Laws.{filled-room, filled-cut}
 use borrow.Author.Needs.{needs}
 use Rattle.sheet_record.proofs.main.Statement.{statement}
 use Rattle.sheet_record.proofs.main.Tie as tie
-
-slice-aggregate-fill : tie.Need-slice-aggregate-fill
-slice-aggregate-fill c = search needs
+use Rattle.streams.proofs.fill.Reads as fill-reads′
 
 fill-requires : tie.Need-fill-requires
 fill-requires c κs = search needs
@@ -29,11 +27,11 @@ returns c = search needs
 array-share-prefix-input : tie.Need-array-share-prefix-input
 array-share-prefix-input c = search (needs, counted-within)
 
-slice-aggregate-fill-2 : tie.Need-slice-aggregate-fill-2
-slice-aggregate-fill-2 c = search (needs, counted-taken)
+slice-aggregate-fill : tie.Need-slice-aggregate-fill
+slice-aggregate-fill c = search (needs, counted-taken)
 
-slice-aggregate-fill-3 : tie.Need-slice-aggregate-fill-3
-slice-aggregate-fill-3 c = search needs
+slice-aggregate-fill-2 : tie.Need-slice-aggregate-fill-2
+slice-aggregate-fill-2 c = search needs
 
 fill-requires-2 : tie.Need-fill-requires-2
 fill-requires-2 c κs = search needs
@@ -66,7 +64,6 @@ pub main-spec : {M : Type 1} → statement M
 main-spec =
     tie.close
     (tie.spec
-    slice-aggregate-fill
     fill-requires
     enum-known-n
     enum-told
@@ -74,8 +71,8 @@ main-spec =
     fail-requires
     returns
     array-share-prefix-input
+    slice-aggregate-fill
     slice-aggregate-fill-2
-    slice-aggregate-fill-3
     fill-requires-2
     enum-known-outcome
     array-share-prefix-sheet

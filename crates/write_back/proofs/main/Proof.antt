@@ -5,9 +5,6 @@ use borrow.Author.Needs.{needs}
 use Rattle.write_back.proofs.main.Statement.{statement}
 use Rattle.write_back.proofs.main.Tie as tie
 
-slice-aggregate-fill : tie.Need-slice-aggregate-fill
-slice-aggregate-fill c = search needs
-
 fill-requires : tie.Need-fill-requires
 fill-requires c κs = search needs
 
@@ -69,7 +66,6 @@ pub main-spec : {M : Type 1} → statement M
 main-spec =
     tie.close
     (tie.spec
-    slice-aggregate-fill
     fill-requires
     enum-known-n
     enum-told

@@ -1,11 +1,11 @@
--- `streams::fill`: each read stays inside the buffer and leaves less of it.
+-- `streams::read_into`: each read stays inside the buffer and leaves less of it.
 use mathlib.Core.Path.{_≡_}
 use Prim.Native.Nat.{_-_, _≤_}
 use lib.ListN.{length}
 use borrow.Author.Needs.{needs}
 use Rattle.streams.specs.Laws.{fits-more, inside, less, filled}
-use Rattle.streams.proofs.fill.Statement.{statement}
-use Rattle.streams.proofs.fill.Tie as tie
+use Rattle.streams.proofs.read_into.Statement.{statement}
+use Rattle.streams.proofs.read_into.Tie as tie
 
 abbrev Inv-loop : tie.InvT-loop
 Inv-loop buf₀ n₀ buf n = (n ≤ length buf) × (length buf ≡ length buf₀)
@@ -55,8 +55,8 @@ same-length-3 c = search needs
 returns-3 : tie.Need-returns-3 Inv-loop μ-loop
 returns-3 c = search (needs, filled)
 
-pub fill-spec : {M : Type 1} → statement M
-fill-spec =
+pub read-into-spec : {M : Type 1} → statement M
+read-into-spec =
     tie.close
     (tie.spec
     Inv-loop
