@@ -6,7 +6,7 @@ use mathlib.Core.Bool.{Bool, true, false, _&&_, not}
 use mathlib.Core.List.{List, [], _∷_}
 use lib.ListN.{length, getD, drop, List·getD-eq-default}
 use lib.Dec.{T, eqb, ltb, ltb→lt}
-use borrow.Author.Tests.{eq-eqb, ne-eqb, lt-ltb, le-ltb}
+use borrow.Author.Tests.{lt-ltb, le-ltb}
 use Rattle.terms.specs.declared.Field.{Field}
 use Rattle.terms.specs.Answer.{pick}
 use Rattle.terms.specs.Laws.Answer.{and-l, and-r}
@@ -15,14 +15,21 @@ use Rattle.layouts.specs.Marks.{free, filled, noted}
 
 -- ---- noting a field
 
-module _ (d : List ℕ) (n k x : ℕ) (e : x ≡ getD d wanted-at 0) where
-  pub unwanted : (k ≡ x → ⊥) → false ≡ eqb k (wanted d) && free d n
-  unfolding wanted
-  unwanted h = rw (← e, ne-eqb k x h)
+and-no : (x : Bool) → x && false ≡ false
+and-no true = refl
+and-no false = refl
 
-  pub if-free : (b : Bool) → k ≡ x → b ≡ free d n → b ≡ eqb k (wanted d) && free d n
+and-yes : (x : Bool) → x && true ≡ x
+and-yes true = refl
+and-yes false = refl
+
+module _ (d : List ℕ) (n k : ℕ) (b : Bool) (f : b ≡ free d n) where
+  pub not-free : b ≡ false → false ≡ eqb k (wanted d) && free d n
+  not-free h = rw (← f, h, and-no (eqb k (wanted d)))
+
+  pub if-wanted : (x : ℕ) → b ≡ true → x ≡ getD d wanted-at 0 → eqb k x ≡ eqb k (wanted d) && free d n
   unfolding wanted
-  if-free b h f = rw (← e, eq-eqb k x h) f
+  if-wanted x h e = rw (← f, h, ← e, and-yes (eqb k x))
 
 module _ (f : Field) (k a z i : ℕ) (d : List ℕ) (n : ℕ) (b : Bool) (q : n ≡ slot f) (e : b ≡ eqb k (wanted d) && free d n) where
   pub noted-held : b ≡ false → d ≡ noted f k a z i d

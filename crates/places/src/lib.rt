@@ -69,15 +69,15 @@ pub fn blank(index: usize) -> [usize; TABLE_SIZE]
     places
 }
 
-// Whether a field of an index is to be noted in four numbers: it is wanted, and they are free.
+// Whether a field of an index is to be noted in four numbers: they are free, and it is wanted.
 fn takes(places: &[usize], n: usize, index: usize) -> bool
     requires { ⌜ n < table-size ⌝ }
     ensures { λ r. ⌜ r ≡ eqb index (wanted (now (places .entry))) && free (now (places .entry)) n ⌝ }
 {
-    if index != number_at(places, WANTED_AT) {
+    if !is_free(places, n) {
         return false;
     }
-    is_free(places, n)
+    index == number_at(places, WANTED_AT)
 }
 
 // Notes a field under its name, once, if its index is wanted and the table has room for it.

@@ -37,8 +37,10 @@ const ZULU: usize = 14;
 
 const TIME_BYTES: usize = 15;
 
-// The days of each month, January first, in a year that is no leap year.
-const MONTHS: [u64; 12] = [31, 28, 31, 30, 31, 30, 31, 31, 30, 31, 30, 31];
+// The first and the last digit.
+const ZERO: u64 = 0x30;
+
+const NINE: u64 = 0x39;
 
 // A number that was read, or none.
 enum Parsed {
@@ -77,8 +79,28 @@ fn month_length(year: u64, month: u64) -> u64
     if is_long_february(year, month) {
         return 29;
     }
-    let i = (month - 1) as usize;
-    MONTHS[i]
+    match month {
+        1 => 31,
+        2 => 28,
+        3 => 31,
+        4 => 30,
+        5 => 31,
+        6 => 30,
+        7 => 31,
+        8 => 31,
+        9 => 30,
+        10 => 31,
+        11 => 30,
+        12 => 31,
+        _ => 0,
+    }
+}
+
+// A byte as a number.
+fn wide(b: u8) -> u64
+    ensures { λ r. ⌜ r ≡ b ⌝ }
+{
+    b as u64
 }
 
 // The digit at a position.
@@ -88,14 +110,14 @@ fn digit_at(w: &[u8], i: usize) -> Parsed
     if w.len() <= i {
         return Parsed::Nothing;
     }
-    let b = w[i];
-    if b < b'0' {
+    let b = wide(w[i]);
+    if b < ZERO {
         return Parsed::Nothing;
     }
-    if b'9' < b {
+    if NINE < b {
         return Parsed::Nothing;
     }
-    Parsed::Number((b - b'0') as u64)
+    Parsed::Number(b - ZERO)
 }
 
 // A number from a least to a most number.
@@ -207,7 +229,7 @@ pub fn time(s: &[u8], at: usize, a: usize, z: usize) -> Checked
     ensures { λ r. ⌜ r ≡ checkedAt timeRule (now (s .entry)) at a z ⌝ }
 {
     let w = windows::window(s, a, z);
-    if TIME_BYTES < w.len() {
+    if w.len() != TIME_BYTES {
         return Checked::Wrong(BAD_TIME, at);
     }
     let Parsed::Number(_) = time_in(w) else {

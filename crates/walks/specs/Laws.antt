@@ -239,7 +239,7 @@ module _ (ms : List Member) (d : Member) (k w : ℕ) (n : length ms ≡ w) (r : 
   unfolding from
   row-step = rw (one-more ms d k w n r, row-split (getD ms k d) (drop (k + 1) ms) i s p e t, ← g) refl
 
-  pub row-refused : (n q : ℕ) → x ≡ Refused n q → (x, t′) ≡ rowWalk (from k ms) i s p e t
+  pub row-refused : (n q : ℕ) → x ≡ Refused n q → (Refused n q, t′) ≡ rowWalk (from k ms) i s p e t
   row-refused n q h = rw (row-step, h) refl
 
   pub row-next : (q : ℕ) → x ≡ Next q → rowWalk (from k ms) i s p e t ≡ rowWalk (from (k + 1) ms) i s q e t′

@@ -1,4 +1,5 @@
-// One reader over the table of layouts, which notes where each field stands.
+// One reader over the table of layouts, which notes where each field stands. Each case returns by itself: an answer that the cases of a
+// match share is copied once more.
 use heads::Seen;
 use heads::Step;
 use layouts::Tally;
@@ -29,22 +30,16 @@ fn item(
 {
     let b = structures::build_of(x);
     match b {
-        Build::Leaf(primitive) => edges::past(entries::leaf(
-            s,
-            primitive,
-            name,
-            index,
-            at,
-            end,
-            places,
-        )),
+        Build::Leaf(primitive) => {
+            return edges::past(entries::leaf(s, primitive, name, index, at, end, places));
+        }
         Build::Node(t, members) => {
             let h = items::head(s, t, at, end);
             let Seen::Item { start: a, end: z } = h else {
                 return edges::past(h);
             };
             places::note(places, name, index, at, z, 0);
-            row(s, members, index, a, z, places)
+            return row(s, members, index, a, z, places);
         }
         Build::List {
             tag,
@@ -59,10 +54,10 @@ fn item(
             };
             let c = list(s, each, most, item_name, a, z, places);
             match c {
-                Tally::Refused(number, place) => Step::Refused(number, place),
+                Tally::Refused(number, place) => return Step::Refused(number, place),
                 Tally::Items(n) => {
                     places::note(places, name, index, at, z, n);
-                    Step::Next(z)
+                    return Step::Next(z);
                 }
             }
         }
@@ -75,7 +70,7 @@ fn item(
             let Step::Next(q) = r else {
                 return r;
             };
-            edges::close(q, z)
+            return edges::close(q, z);
         }
     }
 }
@@ -89,10 +84,10 @@ fn row(s: &[u8], x: Row, index: usize, at: usize, end: usize, places: &mut [usiz
     let mut k: usize = 0;
     while k < MEMBERS {
         let passed = member(s, members[k], index, p, end, places);
-        let Step::Next(q) = passed else {
-            return passed;
-        };
-        p = q;
+        match passed {
+            Step::Refused(number, place) => return Step::Refused(number, place),
+            Step::Next(q) => p = q,
+        }
         k += 1;
     }
     edges::close(p, end)
@@ -103,17 +98,17 @@ fn member(s: &[u8], m: Member, index: usize, at: usize, end: usize, places: &mut
     ensures { λ r. ⌜ (r, now (places .exit)) ≡ memberWalk m index (now (s .entry)) at end (now (places .entry)) ⌝ }
 {
     match m {
-        Member::Blank => Step::Next(at),
-        Member::Known(w) => edges::past(leaves::known(s, w, at, end)),
+        Member::Blank => return Step::Next(at),
+        Member::Known(w) => return edges::past(leaves::known(s, w, at, end)),
         Member::Leaf(name, primitive) => {
-            edges::past(entries::leaf(s, primitive, name, index, at, end, places))
+            return edges::past(entries::leaf(s, primitive, name, index, at, end, places));
         }
-        Member::Part(name, x) => item(s, x, name, index, at, end, places),
+        Member::Part(name, x) => return item(s, x, name, index, at, end, places),
         Member::Maybe(name, x) => {
             if edges::begins(s, structures::tag_of(x), at, end) {
                 return item(s, x, name, index, at, end, places);
             }
-            Step::Next(at)
+            return Step::Next(at);
         }
         Member::Flag(name) => {
             if edges::begins(s, Tag::Boolean, at, end) {
@@ -127,7 +122,7 @@ fn member(s: &[u8], m: Member, index: usize, at: usize, end: usize, places: &mut
                     places,
                 ));
             }
-            Step::Next(at)
+            return Step::Next(at);
         }
         Member::Choice {
             by,
@@ -144,7 +139,7 @@ fn member(s: &[u8], m: Member, index: usize, at: usize, end: usize, places: &mut
             if leaves::is_content(s, content, a, z) {
                 return item(s, first, name, index, z, end, places);
             }
-            item(s, second, name, index, z, end, places)
+            return item(s, second, name, index, z, end, places);
         }
     }
 }

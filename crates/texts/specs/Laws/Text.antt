@@ -1,21 +1,19 @@
--- Which bytes begin a character of an alphabet, and a text and an identifier byte by byte. Assumes nothing.
+-- Which bytes begin a character of an alphabet, and a text byte by byte and character by character. Assumes nothing.
 use mathlib.Core.Path.{_≡_, refl, sym, _∙_}
-use Prim.Native.Nat.{ℕ, suc, zero, _+_, _-_, _≤_, _<_}
+use Prim.Native.Nat.{ℕ, suc, zero, _+_, _-_, _≤_, _<_, max}
 use native.Mathlib.Omega.{arith}
 use native.Mathlib.Numerals.{add-one}
 use mathlib.Core.Bool.{Bool, true, false, _&&_}
 use mathlib.Core.List.{List, [], _∷_}
-use lib.ListN.{length, getD, take, drop, drop-of-length-le}
-use lib.Seq.{drop-cons}
-use lib.Dec.{leb, leb→le}
-use borrow.Author.Tests.{le-leb, lt-leb}
-use Rattle.terms.specs.Answer.{pick}
-use Rattle.terms.specs.Laws.Answer.{test, and-l, and-r, is-false}
-use Rattle.contents.specs.Text.{Range, within, Character, character, starts, follows, textFrom, isText}
+use lib.ListN.{length, getD, take, drop, replicate, length-drop, length-replicate, drop-of-length-le}
+use lib.Seq.{drop-cons, drop-drop}
+use lib.Dec.{T, leb, ltb, leb→le, ltb→lt, nltb→le}
+use borrow.Author.Tests.{le-leb, lt-leb, lt-ltb, le-ltb, not-true, not-false}
+use Rattle.terms.specs.Answer.{pick, every}
+use Rattle.terms.specs.Laws.Answer.{never, test, and-l, and-r, is-true, is-false}
+use Rattle.contents.specs.Text.{Range, within, Character, character, starts, follows, textFrom, isText, ia5, printable, utf8}
 use Rattle.texts.specs.declared.Alphabet.{Alphabet}
-use Rattle.texts.specs.declared.Rest.{Rest}
-use Rattle.texts.specs.declared.Rest.the-variants.{Complete, Due, Never}
-use Rattle.texts.specs.Text.{charactersOf, textAfter, Steps}
+use Rattle.texts.specs.Text.{charactersOf, largestOf, goesOn, sizeWith, characterSize}
 
 -- ---- a byte of a range, and one of none
 
@@ -41,63 +39,264 @@ abbrev pub Outside : List Character → ℕ → Type 0
 Outside [] b = Unit {0}
 Outside (x ∷ xs) b = (x .first .0 ≤ b → b ≤ x .first .1 → ⊥) × Outside xs b
 
--- a character that begins with a byte is of the first row that has the byte
-goes : (xs alphabet : List Character) (n b : ℕ) (c : List ℕ) → Outside (take n xs) b → row xs n .first .0 ≤ b → b ≤ row xs n .first .1 → (starts xs b && textFrom alphabet (follows xs b) c) ≡ textFrom alphabet (row xs n .rest) c
-unfolding starts follows pick
-goes [] alphabet n b c o l h = absurd (omega arith)
-goes (x ∷ xs) alphabet zero b c o l h = rw (within-yes b (x .first) l h)
-goes (x ∷ xs) alphabet (suc n) b c (o, os) l h = rw (within-no b (x .first) o) (goes xs alphabet n b c os l h)
-
-goes-nowhere : (xs : List Character) (b : ℕ) → Outside xs b → starts xs b ≡ false
+-- a byte that a row has begins a character; what follows it is of the first row that has it
+pub starts-row : (xs : List Character) (n b : ℕ) → row xs n .first .0 ≤ b → b ≤ row xs n .first .1 → true ≡ starts xs b
 unfolding starts
-goes-nowhere [] b h = refl
-goes-nowhere (x ∷ xs) b (h, k) = rw (within-no b (x .first) h) (goes-nowhere xs b k)
+starts-row [] n b l h = absurd (omega arith)
+starts-row (x ∷ xs) zero b l h = rw (within-yes b (x .first) l h)
+starts-row (x ∷ xs) (suc n) b l h = test (within b (x .first)) (λ t. rw (is-true (within b (x .first)) t)) (λ t. rw (is-false (within b (x .first)) t) (starts-row xs n b l h))
 
-module _ (xs : List Character) where
-  pub begins : (n b : ℕ) → Outside (take n xs) b → row xs n .first .0 ≤ b → b ≤ row xs n .first .1 → (c : List ℕ) → isText xs (b ∷ c) ≡ textFrom xs (row xs n .rest) c
-  unfolding textFrom
-  begins n b o l h c = goes xs xs n b c o l h
+follows-row : (xs : List Character) (n b : ℕ) → Outside (take n xs) b → row xs n .first .0 ≤ b → b ≤ row xs n .first .1 → follows xs b ≡ row xs n .rest
+unfolding follows pick
+follows-row [] n b o l h = absurd (omega arith)
+follows-row (x ∷ xs) zero b o l h = rw (within-yes b (x .first) l h)
+follows-row (x ∷ xs) (suc n) b (o, os) l h = rw (within-no b (x .first) o) (follows-row xs n b os l h)
 
-  pub begins-none : (b : ℕ) → Outside xs b → Steps xs Complete b Never
-  unfolding textFrom
-  begins-none b h c = rw (goes-nowhere xs b h)
+pub starts-none : (xs : List Character) (b : ℕ) → Outside xs b → false ≡ starts xs b
+unfolding starts
+starts-none [] b h = refl
+starts-none (x ∷ xs) b (h, k) = rw (within-no b (x .first) h) (starts-none xs b k)
 
--- ---- a byte that is due
+-- ---- the largest byte
 
-module _ (b low high tails : ℕ) where
-  pub due-low : b < low → (xs : List Character) → Steps xs (Due low high tails) b Never
-  unfolding textFrom within
-  due-low h xs c = rw (lt-leb low b h)
+-- what was passed and what is left, together
+pub largest-on : (w : List ℕ) (i m n : ℕ) → i < length w → largestOf w ≡ max m (largestOf (drop i w)) → n ≡ max m (getD w i 0) → largestOf w ≡ max n (largestOf (drop (i + 1) w))
+unfolding largestOf
+largest-on w i m n h e f = e ∙ rw (add-one, drop-cons w i 0, f) (omega arith)
 
-  pub due-high : low ≤ b → high < b → (xs : List Character) → Steps xs (Due low high tails) b Never
-  unfolding textFrom within
-  due-high l h xs c = rw (le-leb low b l, lt-leb b high h)
+pub largest-end : (w : List ℕ) (i m : ℕ) → length w ≤ i → largestOf w ≡ max m (largestOf (drop i w)) → m ≡ largestOf w
+unfolding largestOf
+largest-end w i m h e = sym (e ∙ rw (drop-of-length-le w h) (omega arith))
 
-  pub due-last : low ≤ b → b ≤ high → tails ≡ 0 → (xs : List Character) → Steps xs (Due low high tails) b Complete
-  unfolding textFrom
-  due-last l h e xs c = rw (e, within-yes b (low, high) l h)
-
-pub due-on : (b low high tails : ℕ) → low ≤ b → b ≤ high → (tails ≡ 0 → ⊥) → (xs : List Character) → Steps xs (Due low high tails) b (Due 0x80 0xBF (tails - 1))
+-- a byte below 80 is a character of its own, in both alphabets
+low-byte : (xs : List Character) → row xs 0 ≡ character 0x00 0x7F [] → (b : ℕ) (c : List ℕ) → b < 0x80 → isText xs (b ∷ c) ≡ isText xs c
 unfolding textFrom
-due-on b low high zero l h e xs c = absurd (e refl)
-due-on b low high (suc n) l h e xs c = let f : suc n - 1 ≡ n = omega arith in rw (f, within-yes b (low, high) l h)
+low-byte xs e b c h =
+    let z : row xs 0 .first .0 ≤ b = rw e (omega arith) in
+    let m : b ≤ row xs 0 .first .1 = rw e (omega arith) in
+    rw (← starts-row xs 0 b z m, follows-row xs 0 b tt z m, e)
+
+pub below-80 : (c : List ℕ) → ltb (largestOf c) 0x80 ≡ isText ia5 c
+unfolding largestOf textFrom
+below-80 [] = refl
+below-80 (b ∷ c) =
+    test (ltb b 0x80)
+    (λ t.
+    let h : b < 0x80 = ltb→lt b 0x80 t in
+    rw (low-byte ia5 refl b c h, ← below-80 c) (small b (largestOf c) h))
+    (λ t.
+    let h : 0x80 ≤ b = nltb→le b 0x80 t in
+    rw (← starts-none ia5 b ((λ l k. omega arith), tt)) (le-ltb (max b (largestOf c)) 0x80 (omega arith)))
+  where
+    small : (x m : ℕ) → x < 0x80 → ltb (max x m) 0x80 ≡ ltb m 0x80
+    small x m h =
+        test (ltb m 0x80)
+        (λ t. let k : m < 0x80 = ltb→lt m 0x80 t in rw (lt-ltb m 0x80 k) (lt-ltb (max x m) 0x80 (omega arith)))
+        (λ t. let k : 0x80 ≤ m = nltb→le m 0x80 t in rw (le-ltb m 0x80 k) (le-ltb (max x m) 0x80 (omega arith)))
+
+-- text of ASCII is text of UTF-8
+pub ascii : (c : List ℕ) (t : Bool) → t ≡ isText ia5 c → t ≡ true → true ≡ isText utf8 c
+unfolding textFrom
+ascii c t e h = go c (sym (sym h ∙ e))
+  where
+    go : (d : List ℕ) → isText ia5 d ≡ true → true ≡ isText utf8 d
+    go [] f = refl
+    go (b ∷ d) f =
+        test (ltb b 0x80)
+        (λ k.
+        let l : b < 0x80 = ltb→lt b 0x80 k in
+        rw (low-byte utf8 refl b d l) (go d (sym (low-byte ia5 refl b d l) ∙ f)))
+        (λ k.
+        let l : 0x80 ≤ b = nltb→le b 0x80 k in
+        let z : false ≡ true = rw (← starts-none ia5 b ((λ x y. omega arith), tt)) at f in
+        never (cc))
+
+-- ---- an alphabet whose characters have one byte each
+
+follows-nothing : (xs : List Character) (b : ℕ) → T (every (λ x. ltb (length (x .rest)) 1) xs) → follows xs b ≡ []
+unfolding follows every pick
+follows-nothing [] b t = refl
+follows-nothing (x ∷ xs) b t =
+    test (within b (x .first))
+    (λ h. rw (is-true (within b (x .first)) h) (empty (x .rest) (and-l (ltb (length (x .rest)) 1) _ t)))
+    (λ h. rw (is-false (within b (x .first)) h) (follows-nothing xs b (and-r (ltb (length (x .rest)) 1) _ t)))
+  where
+    empty : (rs : List Range) → T (ltb (length rs) 1) → rs ≡ []
+    empty [] l = refl
+    empty (r ∷ rs) l = let k : length (r ∷ rs) < 1 = ltb→lt _ 1 l in absurd (omega arith)
+
+module _ (w : List ℕ) (i : ℕ) (t : Bool) (e : isText printable w ≡ isText printable (drop i w)) (h : i < length w) (g : t ≡ starts printable (getD w i 0)) where
+  pub printable-on : t ≡ true → isText printable w ≡ isText printable (drop (i + 1) w)
+  unfolding textFrom every
+  printable-on f = e ∙ rw (add-one, drop-cons w i 0, ← g, f, follows-nothing printable (getD w i 0) tt)
+
+  pub printable-bad : t ≡ false → false ≡ isText printable w
+  unfolding textFrom
+  printable-bad f = sym (e ∙ rw (drop-cons w i 0, ← g, f))
+
+-- at the end of a text nothing is left to look at
+pub text-end : (xs : List Character) (w : List ℕ) (i : ℕ) → length w ≤ i → isText xs w ≡ isText xs (drop i w) → true ≡ isText xs w
+unfolding textFrom
+text-end xs w i h e = sym (e ∙ rw (drop-of-length-le w h))
+
+-- ---- what follows a character's first byte
+
+module _ (w : List ℕ) (i low high : ℕ) where
+  pub stands-end : length w ≤ i → false ≡ goesOn ((low, high) ∷ []) (drop i w)
+  unfolding goesOn
+  stands-end h = rw (drop-of-length-le w h)
+
+  module _ (h : i < length w) where
+    pub stands-low : getD w i 0 < low → false ≡ goesOn ((low, high) ∷ []) (drop i w)
+    unfolding goesOn within
+    stands-low l = rw (drop-cons w i 0, lt-leb low (getD w i 0) l)
+
+    pub stands-high : low ≤ getD w i 0 → leb (getD w i 0) high ≡ goesOn ((low, high) ∷ []) (drop i w)
+    unfolding goesOn within
+    stands-high l = rw (drop-cons w i 0, le-leb low (getD w i 0) l) (sym (yes (leb (getD w i 0) high)))
+      where
+        yes : (x : Bool) → x && true ≡ x
+        yes true = refl
+        yes false = refl
+
+-- the tails of a character: those that are left, from `k` on
+abbrev pub tails : ℕ → List Range
+tails n = replicate n (0x80, 0xBF)
+
+first-of : (r : Range) (rs : List Range) (c : List ℕ) → goesOn (r ∷ rs) c ≡ goesOn (r ∷ []) c && goesOn rs (drop 1 c)
+unfolding goesOn
+first-of r rs [] = refl
+first-of r rs (b ∷ c) = go (within b r) (goesOn rs c)
+  where
+    go : (x y : Bool) → x && y ≡ (x && true) && y
+    go true y = refl
+    go false y = refl
+
+-- a byte that must follow stands there, or does not
+module _ (r : Range) (rs : List Range) (w : List ℕ) (i : ℕ) (t : Bool) (e : t ≡ goesOn (r ∷ []) (drop i w)) where
+  goes-on : t ≡ true → goesOn (r ∷ rs) (drop i w) ≡ goesOn rs (drop (i + 1) w)
+  goes-on h = rw (first-of r rs (drop i w), ← e, h, drop-drop 1 i w)
+
+  goes-wrong : t ≡ false → goesOn (r ∷ rs) (drop i w) ≡ false
+  goes-wrong h = rw (first-of r rs (drop i w), ← e, h)
+
+  pub no-size : t ≡ false → 0 ≡ sizeWith (r ∷ rs) (drop i w)
+  unfolding sizeWith pick
+  no-size h = rw (goes-wrong h)
+
+stood : (r : Range) (w : List ℕ) (i : ℕ) → goesOn (r ∷ []) (drop i w) ≡ true → i < length w
+unfolding goesOn
+stood r w i e =
+    test (ltb i (length w))
+    (λ t. ltb→lt i (length w) t)
+    (λ t. never (let z : false ≡ true = rw (drop-of-length-le w {i = i} (nltb→le i (length w) t)) at e in cc))
+
+pub stood-at : (r : Range) (w : List ℕ) (i : ℕ) (t : Bool) → t ≡ goesOn (r ∷ []) (drop i w) → t ≡ true → i < length w
+stood-at r w i t e h = stood r w i (sym e ∙ h)
+
+-- the size, where the second byte and the first `k` of `n` tails stand there
+pub record Tailed (r : Range) (n : ℕ) (w : List ℕ) (i k : ℕ) : Type 0 where
+  pub few : k ≤ n
+  pub room : i + 2 + k ≤ length w
+  pub left : sizeWith (r ∷ tails n) (drop (i + 1) w) ≡ pick (goesOn (tails (n - k)) (drop (i + 2 + k) w)) (2 + n) 0
+
+module _ (r : Range) (n : ℕ) (w : List ℕ) (i : ℕ) where
+  pub tailed-first : (t : Bool) → t ≡ goesOn (r ∷ []) (drop (i + 1) w) → t ≡ true → Tailed r n w i 0
+  unfolding sizeWith
+  tailed-first t e h =
+      let x : i + 1 + 1 ≡ i + 2 + 0 = omega arith in
+      let y : suc n + 1 ≡ 2 + n = omega arith in
+      let z : n - 0 ≡ n = omega arith in
+      record {
+        few = omega arith;
+        room = omega (arith, stood-at r w (i + 1) t e h);
+        left = rw (goes-on r (tails n) w (i + 1) t e h, length-replicate {A = Range} n (0x80, 0xBF), x, y, z);
+      }
+
+  module _ (k : ℕ) (so : Tailed r n w i k) where
+    pub tailed-all : n ≤ k → 2 + n ≡ sizeWith (r ∷ tails n) (drop (i + 1) w)
+    unfolding goesOn pick
+    tailed-all h = let z : n - k ≡ 0 = omega arith in sym (so .left ∙ rw z)
+
+    module _ (l : k < n) (t : Bool) (e : t ≡ goesOn ((0x80, 0xBF) ∷ []) (drop (i + 2 + k) w)) where
+      one-left : n - k ≡ suc (n - (k + 1))
+      one-left = omega arith
+
+      pub tailed-next : t ≡ true → Tailed r n w i (k + 1)
+      tailed-next h =
+          let x : i + 2 + k + 1 ≡ i + 2 + (k + 1) = omega arith in
+          record {
+            few = omega arith;
+            room = omega (arith, stood-at (0x80, 0xBF) w (i + 2 + k) t e h);
+            left = so .left ∙ rw (one-left, goes-on (0x80, 0xBF) (tails (n - (k + 1))) w (i + 2 + k) t e h, x);
+          }
+
+      pub tailed-bad : t ≡ false → 0 ≡ sizeWith (r ∷ tails n) (drop (i + 1) w)
+      unfolding pick
+      tailed-bad h = sym (so .left ∙ rw (one-left, goes-wrong (0x80, 0xBF) (tails (n - (k + 1))) w (i + 2 + k) t e h))
+
+-- ---- a text, character by character
+
+-- the character at a position, by the row of its first byte
+module _ (xs : List Character) (w : List ℕ) (i b : ℕ) (h : (i < length w) × (b ≡ getD w i 0)) where
+  pub size-row : (n r : ℕ) → r ≡ sizeWith (row xs n .rest) (drop (i + 1) w) → Outside (take n xs) b → row xs n .first .0 ≤ b → b ≤ row xs n .first .1 → r ≡ characterSize xs (drop i w)
+  unfolding characterSize pick
+  size-row n r e o l m = e ∙ rw (drop-cons w i 0 (h .0), ← h .1, ← starts-row xs n b l m, follows-row xs n b o l m, add-one)
+
+  pub size-none : Outside xs b → 0 ≡ characterSize xs (drop i w)
+  unfolding characterSize pick
+  size-none o = rw (drop-cons w i 0 (h .0), ← h .1, ← starts-none xs b o)
+
+pub size-one : (c : List ℕ) → 1 ≡ sizeWith [] c
+unfolding sizeWith goesOn pick
+size-one c = refl
+
+split : (xs : List Character) (rs : List Range) (c : List ℕ) → textFrom xs rs c ≡ goesOn rs c && isText xs (drop (length rs) c)
+unfolding textFrom goesOn
+split xs [] c = refl
+split xs (r ∷ rs) [] = refl
+split xs (r ∷ rs) (b ∷ c) = rw (split xs rs c) (go (within b r) (goesOn rs c) (isText xs (drop (length rs) c)))
+  where
+    go : (x y z : Bool) → x && (y && z) ≡ (x && y) && z
+    go true y z = refl
+    go false y z = refl
+
+goes-fits : (rs : List Range) (c : List ℕ) → T (goesOn rs c) → length rs ≤ length c
+unfolding goesOn
+goes-fits [] c t = omega arith
+goes-fits (r ∷ rs) [] t = absurd t
+goes-fits (r ∷ rs) (b ∷ c) t = omega (arith, goes-fits rs c (and-r (within b r) (goesOn rs c) t))
+
+-- a character's size: its text goes on behind it, and it has room
+by-size : (xs : List Character) (c : List ℕ) (P : ℕ → Type 0)
+    → (isText xs c ≡ false → P 0)
+    → ((n : ℕ) → isText xs c ≡ isText xs (drop (n + 1) c) → n + 1 ≤ length c → P (n + 1))
+    → 0 < length c → P (characterSize xs c)
+unfolding textFrom characterSize sizeWith pick
+by-size xs [] P f g l = absurd (omega arith)
+by-size xs (b ∷ c) P f g l =
+    test (starts xs b)
+    (λ t.
+    test (goesOn (follows xs b) c)
+    (λ u. rw (is-true (starts xs b) t, is-true (goesOn (follows xs b) c) u) (g (length (follows xs b)) (rw (is-true (starts xs b) t, split xs (follows xs b) c, is-true (goesOn (follows xs b) c) u, add-one)) (omega (arith, goes-fits (follows xs b) c u))))
+    (λ u. rw (is-true (starts xs b) t, is-false (goesOn (follows xs b) c) u) (f (rw (is-true (starts xs b) t, split xs (follows xs b) c, is-false (goesOn (follows xs b) c) u)))))
+    (λ t. rw (is-false (starts xs b) t) (f (rw (is-false (starts xs b) t))))
+
+module _ (xs : List Character) (w : List ℕ) (i n : ℕ) (g : n ≡ characterSize xs (drop i w)) (l : i < length w) where
+  room : 0 < length (drop i w)
+  room = rw (length-drop i w) (omega arith)
+
+  pub size-fits : i + n ≤ length w
+  size-fits = rw g (by-size xs (drop i w) (λ m. i + m ≤ length w) (λ f. omega arith) (λ m f h. omega (arith, rw (length-drop i w) at h)) room)
+
+  module _ (e : isText xs w ≡ isText xs (drop i w)) where
+    pub size-on : (n ≡ 0 → ⊥) → isText xs w ≡ isText xs (drop (i + n) w)
+    size-on h = e ∙ by-size xs (drop i w) (λ m. n ≡ m → isText xs (drop i w) ≡ isText xs (drop (i + n) w)) (λ f q. absurd (h q)) (λ m f k q. rw (q, ← drop-drop (m + 1) i w) f) room g
+
+    pub size-bad : n ≡ 0 → false ≡ isText xs w
+    size-bad h = sym (e ∙ by-size xs (drop i w) (λ m. n ≡ m → isText xs (drop i w) ≡ false) (λ f q. f) (λ m f k q. absurd (omega arith)) room g)
 
 -- ---- what the code knows by its names
 
-pub of-alphabet : (x y : Alphabet) (b : ℕ) (r : Rest) → x ≡ y → Steps (charactersOf y) Complete b r → Steps (charactersOf x) Complete b r
-of-alphabet x y b r e h = rw e h
-
-pub of-rest : (xs : List Character) (x y : Rest) (b : ℕ) (r : Rest) → x ≡ y → Steps xs y b r → Steps xs x b r
-of-rest xs x y b r e h = rw e h
-
--- ---- a text: what is to come from `i` on is the whole answer
-
-module _ (xs : List Character) (w : List ℕ) (i : ℕ) (x : Rest) (is : isText xs w ≡ textAfter xs x (drop i w)) where
-  pub text-on : (y : Rest) → i < length w → Steps xs x (getD w i 0) y → isText xs w ≡ textAfter xs y (drop (i + 1) w)
-  text-on y h e = is ∙ rw (add-one, drop-cons w i 0) (e (drop (suc i) w))
-
-  pub text-bad : (y : Rest) → i < length w → Steps xs x (getD w i 0) y → y ≡ Never → false ≡ isText xs w
-  text-bad y h e n = sym (text-on y h e ∙ rw n)
-
-  pub text-end : (y : Rest) (t : Bool) → length w ≤ i → x ≡ y → t ≡ textAfter xs y [] → t ≡ isText xs w
-  text-end y t h e f = f ∙ sym (is ∙ rw (drop-of-length-le w h, e))
+pub of-alphabet : (x y : Alphabet) (w : List ℕ) (t : Bool) → x ≡ y → t ≡ isText (charactersOf y) w → t ≡ isText (charactersOf x) w
+of-alphabet x y w t e h = rw e h

@@ -8,8 +8,11 @@ use Rattle.times.proofs.digit_at.Tie as tie
 returns : tie.Need-returns
 returns c = (search (needs, digit-end), tt)
 
-shared-slice-read-b : tie.Need-shared-slice-read-b
-shared-slice-read-b c = search needs
+shared-slice-read-wide : tie.Need-shared-slice-read-wide
+shared-slice-read-wide c = search needs
+
+wide-requires : tie.Need-wide-requires
+wide-requires c κs = search needs
 
 returns-2 : tie.Need-returns-2
 returns-2 c = (search (needs, digit-low), tt)
@@ -17,12 +20,9 @@ returns-2 c = (search (needs, digit-low), tt)
 returns-3 : tie.Need-returns-3
 returns-3 c = (search (needs, digit-high), tt)
 
-cast-t8 : tie.Need-cast-t8
-cast-t8 c = search needs
-
 returns-4 : tie.Need-returns-4
 returns-4 c = (search (needs, digit-good), omega arith)
 
 pub digit-at-spec : {M : Type 1} → statement M
 digit-at-spec =
-    tie.close (tie.spec returns shared-slice-read-b returns-2 returns-3 cast-t8 returns-4)
+    tie.close (tie.spec returns shared-slice-read-wide wide-requires returns-2 returns-3 returns-4)

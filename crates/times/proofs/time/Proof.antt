@@ -1,7 +1,6 @@
--- `times::time` is right since a time that was read ends after fifteen bytes: something stands after it in a longer content, and nothing in any other.
-use native.Mathlib.Omega.{arith}
+-- `times::time` is right since a time that was read has its Z as the fifteenth byte, and nothing may stand after it.
 use borrow.Author.Needs.{needs}
-use Rattle.times.specs.Laws.Whole.{too-long, no-time, right-time}
+use Rattle.times.specs.Laws.Whole.{other-length, no-time, right-time}
 use Rattle.times.proofs.time.Statement.{statement}
 use Rattle.times.proofs.time.Tie as tie
 
@@ -9,7 +8,7 @@ window-requires : tie.Need-window-requires
 window-requires c κs = search needs
 
 returns : tie.Need-returns
-returns c = too-long _ _ _ _ (c .before .window .ensures) _ (omega arith)
+returns c = search (needs, other-length)
 
 time-in-requires : tie.Need-time-in-requires
 time-in-requires c κs = search needs

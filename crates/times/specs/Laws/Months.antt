@@ -1,6 +1,6 @@
 -- The Gregorian rule, case by case. Assumes nothing.
 use mathlib.Core.Path.{_≡_, sym, _∙_}
-use Prim.Native.Nat.{ℕ, suc, zero, _-_, _%_, _≤_}
+use Prim.Native.Nat.{ℕ, suc, zero, _+_, _-_, _%_, _≤_}
 use native.Mathlib.Omega.{arith}
 use mathlib.Core.Bool.{Bool, true, false, _&&_, and-true, and-false}
 use mathlib.Core.List.{List, [], _∷_}
@@ -36,9 +36,26 @@ module _ (y m : ℕ) {r : Bool} (e : r ≡ leap y && eqb m 2) where
   unfolding monthLength pick
   month-long h = rw (← e, h)
 
-  pub month-plain : r ≡ false → getD months (m - 1) 0 ≡ monthLength y m
+  pub month-plain : (k d : ℕ) → r ≡ false → m ≡ k → d ≡ getD months (k - 1) 0 → d ≡ monthLength y m
   unfolding monthLength pick
-  month-plain h = rw (← e, h)
+  month-plain k d h q f = rw (← e, h, q) f
+
+-- from 1 to 12 there is no other month
+module _ (y m : ℕ) where
+  past : (k : ℕ) → (m ≡ k → ⊥) → k ≤ m → k + 1 ≤ m
+  past k h l = omega (arith, h)
+
+  pub no-month :
+      1 ≤ m → m ≤ 12
+      → (m ≡ 1 → ⊥) → (m ≡ 2 → ⊥) → (m ≡ 3 → ⊥) → (m ≡ 4 → ⊥) → (m ≡ 5 → ⊥) → (m ≡ 6 → ⊥)
+      → (m ≡ 7 → ⊥) → (m ≡ 8 → ⊥) → (m ≡ 9 → ⊥) → (m ≡ 10 → ⊥) → (m ≡ 11 → ⊥) → (m ≡ 12 → ⊥)
+      → 0 ≡ monthLength y m
+  no-month l h a b c d e f g i j k n o =
+      let p = past 6 f (past 5 e (past 4 d (past 3 c (past 2 b (past 1 a l))))) in
+      beyond (past 12 o (past 11 n (past 10 k (past 9 j (past 8 i (past 7 g p)))))) h
+    where
+      beyond : 13 ≤ m → m ≤ 12 → 0 ≡ monthLength y m
+      beyond q r = absurd (omega arith)
 
 -- no month has more than 31 days
 table-most : (xs : List ℕ) (k : ℕ) → T (every (λ x. leb x 31) xs) → getD xs k 0 ≤ 31

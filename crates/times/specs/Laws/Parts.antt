@@ -100,17 +100,18 @@ module _ (w : List ℕ) (i : ℕ) where
   unfolding firstDigit
   digit-end h = rw (drop-of-length-le w h)
 
-  pub digit-low : i < length w → getD w i 0 < 0x30 → Nothing ≡ firstDigit (drop i w)
-  unfolding firstDigit isDigit pick
-  digit-low h l = rw (drop-cons w i 0 h, lt-leb 0x30 (getD w i 0) l)
+  module _ (d : ℕ) (h : i < length w) (e : d ≡ getD w i 0) where
+    pub digit-low : d < 0x30 → Nothing ≡ firstDigit (drop i w)
+    unfolding firstDigit isDigit pick
+    digit-low l = rw (drop-cons w i 0 h, ← e, lt-leb 0x30 d l)
 
-  pub digit-high : i < length w → 0x30 ≤ getD w i 0 → 0x39 < getD w i 0 → Nothing ≡ firstDigit (drop i w)
-  unfolding firstDigit isDigit pick
-  digit-high h l m = rw (drop-cons w i 0 h, le-leb 0x30 (getD w i 0) l, lt-leb (getD w i 0) 0x39 m)
+    pub digit-high : 0x30 ≤ d → 0x39 < d → Nothing ≡ firstDigit (drop i w)
+    unfolding firstDigit isDigit pick
+    digit-high l m = rw (drop-cons w i 0 h, ← e, le-leb 0x30 d l, lt-leb d 0x39 m)
 
-  pub digit-good : i < length w → 0x30 ≤ getD w i 0 → getD w i 0 ≤ 0x39 → Number (getD w i 0 - 0x30) ≡ firstDigit (drop i w)
-  unfolding firstDigit isDigit pick
-  digit-good h l m = rw (drop-cons w i 0 h, le-leb 0x30 (getD w i 0) l, le-leb (getD w i 0) 0x39 m)
+    pub digit-good : 0x30 ≤ d → d ≤ 0x39 → Number (d - 0x30) ≡ firstDigit (drop i w)
+    unfolding firstDigit isDigit pick
+    digit-good l m = rw (drop-cons w i 0 h, ← e, le-leb 0x30 d l, le-leb d 0x39 m)
 
 -- after `j` of `k` digits the number is `n`, and the rest leads to the whole
 pub record Going (k i : ℕ) (w : List ℕ) (n j : ℕ) : Type 0 where

@@ -112,7 +112,7 @@ module _ (n : ℕ) where
 
 -- ---- a real date and time
 
-fifteen : (n : ℕ) → length (written n) ≤ 15
+fifteen : (n : ℕ) → length (written n) ≡ 15
 unfolding written
 fifteen n = let ten : 0 < 10 = omega arith in rw (length-append, length-map, length-digits 10 ten 14 n) (omega arith)
 
@@ -125,7 +125,7 @@ whole-there c = rw (← time-in c) (go (dateIn c) (clockIn c))
     go (Number x) Nothing = refl
     go Nothing t = refl
 
-rule-there : (c : List ℕ) → length c ≤ 15 → passes (timeRule c) ≡ there (told (timeFrom year-digits c 0))
+rule-there : (c : List ℕ) → length c ≡ 15 → passes (timeRule c) ≡ there (told (timeFrom year-digits c 0))
 unfolding passes there
 rule-there c l = go (told (timeFrom year-digits c 0)) refl
   where

@@ -76,9 +76,9 @@ time-in c =
 
 -- ---- where a whole time ends
 
--- what stands after a time that was read
+-- what stands after a time that was read, and that its Z is there
 abbrev Ends : List ℕ → Res (Got Moment) → Type 0
-Ends c r = (x : Got Moment) → r ≡ good x → x .rest ≡ drop 15 c
+Ends c r = (x : Got Moment) → r ≡ good x → (x .rest ≡ drop 15 c) × (14 < length c)
 
 last-ends : (c : List ℕ) (v : Moment) → Ends c (bind (zulu (drop 14 c) 14) λ z. good (got v (z .rest) (z .after)))
 unfolding bind zulu need
@@ -87,7 +87,7 @@ last-ends c v x e =
     (λ t.
     let h : 14 < length c = ltb→lt 14 (length c) t in
     test (eqb (getD c 14 0) 0x5A)
-    (λ k. sym (ap (λ (y : Got Moment). y .rest) (good-inj (rw (drop-cons c 14 0 h, is-true (eqb (getD c 14 0) 0x5A) k) at e))))
+    (λ k. (sym (ap (λ (y : Got Moment). y .rest) (good-inj (rw (drop-cons c 14 0 h, is-true (eqb (getD c 14 0) 0x5A) k) at e))), h))
     (λ k. clash (rw (drop-cons c 14 0 h, is-false (eqb (getD c 14 0) 0x5A) k) at e)))
     (λ t. clash (rw (drop-of-length-le c {i = 14} (nltb→le 14 (length c) t)) at e))
 
@@ -105,15 +105,18 @@ time-ends c =
     none : {X : Type 0} (n p : ℕ) → X → Ends c (fault n p)
     none n p q x e = clash e
 
--- the rule: no more than fifteen bytes, and a number
+-- the rule: fifteen bytes, and a number
 module _ (c : List ℕ) where
-  pub rule-long : 15 < length c → timeRule c ≡ wrong bad-time tag
+  pub rule-other : (length c ≡ 15 → ⊥) → timeRule c ≡ wrong bad-time tag
   unfolding timeRule timeCheck ask same
-  rule-long h = go (timeFrom year-digits c 0) (time-ends c)
+  rule-other h = go (timeFrom year-digits c 0) (time-ends c)
     where
       go : (r : Res (Got Moment)) → Ends c r → timeCheck r ≡ wrong bad-time tag
       go (fault n p) e = refl
-      go (good x) e = rw (e x refl, drop-cons c 15 0 h)
+      go (good x) e =
+          let (q, l) = e x refl in
+          let m : 15 < length c = omega (arith, h) in
+          rw (q, drop-cons c 15 0 m)
 
   pub rule-none : told (timeFrom year-digits c 0) ≡ Nothing → timeRule c ≡ wrong bad-time tag
   unfolding timeRule timeCheck told
@@ -123,13 +126,15 @@ module _ (c : List ℕ) where
       go (fault n p) e = refl
       go (good x) e = no-number (sym e)
 
-  pub rule-fine : {n : ℕ} → length c ≤ 15 → told (timeFrom year-digits c 0) ≡ Number n → timeRule c ≡ fine
+  pub rule-fine : {n : ℕ} → length c ≡ 15 → told (timeFrom year-digits c 0) ≡ Number n → timeRule c ≡ fine
   unfolding timeRule timeCheck ask same told
   rule-fine {n} l = go (timeFrom year-digits c 0) (time-ends c)
     where
       go : (r : Res (Got Moment)) → Ends c r → told r ≡ Number n → timeCheck r ≡ fine
       go (fault k p) h e = no-number e
-      go (good x) h e = rw (h x refl, drop-of-length-le c {i = 15} l)
+      go (good x) h e =
+          let m : length c ≤ 15 = omega arith in
+          rw (h x refl .0, drop-of-length-le c {i = 15} m)
 
 -- ---- step by step, as code goes
 
@@ -175,16 +180,16 @@ as-read x c e = e ∙ time-in c
 -- ---- the content of a record
 
 module _ (s w : List ℕ) (a z : ℕ) (cut : w ≡ slice a z s) where
-  pub too-long : (p : ℕ) → 15 < length w → Wrong bad-time p ≡ checkedAt timeRule s p a z
+  pub other-length : (p : ℕ) → (length w ≡ 15 → ⊥) → Wrong bad-time p ≡ checkedAt timeRule s p a z
   unfolding checkedAt placeOf
-  too-long p h = rw (← cut, rule-long w h)
+  other-length p h = rw (← cut, rule-other w h)
 
   module _ {r : Parsed} (e : r ≡ told (timeFrom year-digits w 0)) where
     pub no-time : (p : ℕ) → r ≡ Nothing → Wrong bad-time p ≡ checkedAt timeRule s p a z
     unfolding checkedAt placeOf
     no-time p q = rw (← cut, rule-none w (sym e ∙ q))
 
-    pub right-time : (p : ℕ) {n : ℕ} → length w ≤ 15 → r ≡ Number n → Fine ≡ checkedAt timeRule s p a z
+    pub right-time : (p : ℕ) {n : ℕ} → length w ≡ 15 → r ≡ Number n → Fine ≡ checkedAt timeRule s p a z
     unfolding checkedAt
     right-time p h q = rw (← cut, rule-fine w h (sym e ∙ q))
 

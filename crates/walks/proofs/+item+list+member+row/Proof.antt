@@ -97,6 +97,12 @@ item-leaf-requires t c κs = search needs
 item-past-requires : (t : ℕ) → item-lts.Need-past-requires (item-c t) (item-at t) item.Post
 item-past-requires t c κs = search needs
 
+item-same-length : (t : ℕ) → item-lts.Need-same-length (item-c t) (item-at t) item.Post
+item-same-length t c = search needs
+
+item-returns : (t : ℕ) → item-lts.Need-returns (item-c t) (item-at t) item.Post
+item-returns t c = search (needs, item-steps)
+
 item-enum-known-b-2 : (t : ℕ) → item-lts.Need-enum-known-b-2 (item-c t) (item-at t) item.Post
 item-enum-known-b-2 t c = search needs
 
@@ -112,14 +118,20 @@ item-enum-told t c = search needs
 item-past-requires-2 : (t : ℕ) → item-lts.Need-past-requires-2 (item-c t) (item-at t) item.Post
 item-past-requires-2 t c κs = search needs
 
-item-returns : (t : ℕ) → item-lts.Need-returns (item-c t) (item-at t) item.Post
-item-returns t c = search (needs, item-steps)
+item-returns-2 : (t : ℕ) → item-lts.Need-returns-2 (item-c t) (item-at t) item.Post
+item-returns-2 t c = search (needs, item-steps)
 
 item-note-requires : (t : ℕ) → item-lts.Need-note-requires (item-c t) (item-at t) item.Post
 item-note-requires t c κs = search needs
 
 item-row-requires : (t : ℕ) → item-lts.Need-row-requires (item-c t) (item-at t) item.Post
 item-row-requires t c κs = search (needs, smaller)
+
+item-same-length-2 : (t : ℕ) → item-lts.Need-same-length-2 (item-c t) (item-at t) item.Post
+item-same-length-2 t c = search needs
+
+item-returns-3 : (t : ℕ) → item-lts.Need-returns-3 (item-c t) (item-at t) item.Post
+item-returns-3 t c = search (needs, item-steps)
 
 item-enum-known-b-3 : (t : ℕ) → item-lts.Need-enum-known-b-3 (item-c t) (item-at t) item.Post
 item-enum-known-b-3 t c = search needs
@@ -136,8 +148,8 @@ item-enum-told-2 t c = search needs
 item-past-requires-3 : (t : ℕ) → item-lts.Need-past-requires-3 (item-c t) (item-at t) item.Post
 item-past-requires-3 t c κs = search needs
 
-item-returns-2 : (t : ℕ) → item-lts.Need-returns-2 (item-c t) (item-at t) item.Post
-item-returns-2 t c = search (needs, item-steps)
+item-returns-4 : (t : ℕ) → item-lts.Need-returns-4 (item-c t) (item-at t) item.Post
+item-returns-4 t c = search (needs, item-steps)
 
 item-list-requires : (t : ℕ) → item-lts.Need-list-requires (item-c t) (item-at t) item.Post
 item-list-requires t c κs = search (needs, smaller)
@@ -145,11 +157,23 @@ item-list-requires t c κs = search (needs, smaller)
 item-enum-known-c : (t : ℕ) → item-lts.Need-enum-known-c (item-c t) (item-at t) item.Post
 item-enum-known-c t c = search needs
 
+item-same-length-3 : (t : ℕ) → item-lts.Need-same-length-3 (item-c t) (item-at t) item.Post
+item-same-length-3 t c = search needs
+
+item-returns-5 : (t : ℕ) → item-lts.Need-returns-5 (item-c t) (item-at t) item.Post
+item-returns-5 t c = search (needs, item-steps)
+
 item-enum-known-c-2 : (t : ℕ) → item-lts.Need-enum-known-c-2 (item-c t) (item-at t) item.Post
 item-enum-known-c-2 t c = search needs
 
 item-note-requires-2 : (t : ℕ) → item-lts.Need-note-requires-2 (item-c t) (item-at t) item.Post
 item-note-requires-2 t c κs = search needs
+
+item-same-length-4 : (t : ℕ) → item-lts.Need-same-length-4 (item-c t) (item-at t) item.Post
+item-same-length-4 t c = search needs
+
+item-returns-6 : (t : ℕ) → item-lts.Need-returns-6 (item-c t) (item-at t) item.Post
+item-returns-6 t c = search (needs, item-steps)
 
 item-enum-known-b-4 : (t : ℕ) → item-lts.Need-enum-known-b-4 (item-c t) (item-at t) item.Post
 item-enum-known-b-4 t c = search needs
@@ -166,8 +190,8 @@ item-enum-told-3 t c = search needs
 item-past-requires-4 : (t : ℕ) → item-lts.Need-past-requires-4 (item-c t) (item-at t) item.Post
 item-past-requires-4 t c κs = search needs
 
-item-returns-3 : (t : ℕ) → item-lts.Need-returns-3 (item-c t) (item-at t) item.Post
-item-returns-3 t c = search (needs, item-steps)
+item-returns-7 : (t : ℕ) → item-lts.Need-returns-7 (item-c t) (item-at t) item.Post
+item-returns-7 t c = search (needs, item-steps)
 
 item-item-requires : (t : ℕ) → item-lts.Need-item-requires (item-c t) (item-at t) item.Post
 item-item-requires t c κs = search (needs, smaller)
@@ -178,38 +202,14 @@ item-enum-known-r t c = search needs
 item-enum-told-4 : (t : ℕ) → item-lts.Need-enum-told-4 (item-c t) (item-at t) item.Post
 item-enum-told-4 t c = search needs
 
-item-same-length : (t : ℕ) → item-lts.Need-same-length (item-c t) (item-at t) item.Post
-item-same-length t c = search needs
-
-item-returns-4 : (t : ℕ) → item-lts.Need-returns-4 (item-c t) (item-at t) item.Post
-item-returns-4 t c = search (needs, item-steps)
-
-item-close-requires : (t : ℕ) → item-lts.Need-close-requires (item-c t) (item-at t) item.Post
-item-close-requires t c κs = search needs
-
-item-same-length-2 : (t : ℕ) → item-lts.Need-same-length-2 (item-c t) (item-at t) item.Post
-item-same-length-2 t c = search needs
-
-item-returns-5 : (t : ℕ) → item-lts.Need-returns-5 (item-c t) (item-at t) item.Post
-item-returns-5 t c = search (needs, item-steps)
-
-item-same-length-3 : (t : ℕ) → item-lts.Need-same-length-3 (item-c t) (item-at t) item.Post
-item-same-length-3 t c = search needs
-
-item-returns-6 : (t : ℕ) → item-lts.Need-returns-6 (item-c t) (item-at t) item.Post
-item-returns-6 t c = search (needs, item-steps)
-
-item-same-length-4 : (t : ℕ) → item-lts.Need-same-length-4 (item-c t) (item-at t) item.Post
-item-same-length-4 t c = search needs
-
-item-returns-7 : (t : ℕ) → item-lts.Need-returns-7 (item-c t) (item-at t) item.Post
-item-returns-7 t c = search (needs, item-steps)
-
 item-same-length-5 : (t : ℕ) → item-lts.Need-same-length-5 (item-c t) (item-at t) item.Post
 item-same-length-5 t c = search needs
 
 item-returns-8 : (t : ℕ) → item-lts.Need-returns-8 (item-c t) (item-at t) item.Post
 item-returns-8 t c = search (needs, item-steps)
+
+item-close-requires : (t : ℕ) → item-lts.Need-close-requires (item-c t) (item-at t) item.Post
+item-close-requires t c κs = search needs
 
 item-same-length-6 : (t : ℕ) → item-lts.Need-same-length-6 (item-c t) (item-at t) item.Post
 item-same-length-6 t c = search needs
@@ -223,97 +223,50 @@ list-Inv-loop s x most name at end places₀ p₀ k₀ places p k = (k ≤ most)
 abbrev list-μ-loop : list-lts.MeasureT-loop
 list-μ-loop s x most name at end places₀ p₀ k₀ places p k = most - k
 
-list-loop-holds :
-    (t : ℕ) →
-    list-lts.Need-loop-holds
-    (list-c t)
-    (list-at t) list.Post list-Inv-loop list-μ-loop
+list-loop-holds : (t : ℕ) → list-lts.Need-loop-holds (list-c t) (list-at t) list.Post list-Inv-loop list-μ-loop
 list-loop-holds t c = (search needs, search needs, search needs)
 
-list-same-length :
-    (t : ℕ) →
-    list-lts.Need-same-length
-    (list-c t)
-    (list-at t) list.Post list-Inv-loop list-μ-loop
+list-same-length : (t : ℕ) → list-lts.Need-same-length (list-c t) (list-at t) list.Post list-Inv-loop list-μ-loop
 list-same-length t c = search needs
 
-list-returns :
-    (t : ℕ) →
-    list-lts.Need-returns
-    (list-c t)
-    (list-at t) list.Post list-Inv-loop list-μ-loop
+list-returns : (t : ℕ) → list-lts.Need-returns (list-c t) (list-at t) list.Post list-Inv-loop list-μ-loop
 list-returns t c = search (needs, list-steps)
 
-list-item-requires :
-    (t : ℕ) →
-    list-lts.Need-item-requires
-    (list-c t)
-    (list-at t) list.Post list-Inv-loop list-μ-loop
+list-item-requires : (t : ℕ) → list-lts.Need-item-requires (list-c t) (list-at t) list.Post list-Inv-loop list-μ-loop
 list-item-requires t c κs = search (needs, smaller)
 
-list-enum-known-r :
-    (t : ℕ) →
-    list-lts.Need-enum-known-r
-    (list-c t)
-    (list-at t) list.Post list-Inv-loop list-μ-loop
+list-enum-known-r : (t : ℕ) → list-lts.Need-enum-known-r (list-c t) (list-at t) list.Post list-Inv-loop list-μ-loop
 list-enum-known-r t c = search needs
 
-list-same-length-2 :
-    (t : ℕ) →
-    list-lts.Need-same-length-2
-    (list-c t)
-    (list-at t) list.Post list-Inv-loop list-μ-loop
+list-same-length-2 : (t : ℕ) → list-lts.Need-same-length-2 (list-c t) (list-at t) list.Post list-Inv-loop list-μ-loop
 list-same-length-2 t c = search needs
 
-list-returns-2 :
-    (t : ℕ) →
-    list-lts.Need-returns-2
-    (list-c t)
-    (list-at t) list.Post list-Inv-loop list-μ-loop
+list-returns-2 : (t : ℕ) → list-lts.Need-returns-2 (list-c t) (list-at t) list.Post list-Inv-loop list-μ-loop
 list-returns-2 t c = search (needs, list-steps)
 
-list-enum-known-r-2 :
-    (t : ℕ) →
-    list-lts.Need-enum-known-r-2
-    (list-c t)
-    (list-at t) list.Post list-Inv-loop list-μ-loop
+list-enum-known-r-2 : (t : ℕ) → list-lts.Need-enum-known-r-2 (list-c t) (list-at t) list.Post list-Inv-loop list-μ-loop
 list-enum-known-r-2 t c = search needs
 
-list-add-k :
-    (t : ℕ) →
-    list-lts.Need-add-k (list-c t) (list-at t) list.Post list-Inv-loop list-μ-loop
+list-add-k : (t : ℕ) → list-lts.Need-add-k (list-c t) (list-at t) list.Post list-Inv-loop list-μ-loop
 list-add-k t c = search needs
 
-list-loop-less :
-    (t : ℕ) →
-    list-lts.Need-loop-less
-    (list-c t)
-    (list-at t) list.Post list-Inv-loop list-μ-loop
+list-loop-less : (t : ℕ) → list-lts.Need-loop-less (list-c t) (list-at t) list.Post list-Inv-loop list-μ-loop
 list-loop-less t c = search needs
 
-list-loop-again :
-    (t : ℕ) →
-    list-lts.Need-loop-again
-    (list-c t)
-    (list-at t) list.Post list-Inv-loop list-μ-loop
+list-loop-again : (t : ℕ) → list-lts.Need-loop-again (list-c t) (list-at t) list.Post list-Inv-loop list-μ-loop
 list-loop-again t c = (search needs, search needs, search (needs, chain, many-on))
 
-list-same-length-3 :
-    (t : ℕ) →
-    list-lts.Need-same-length-3
-    (list-c t)
-    (list-at t) list.Post list-Inv-loop list-μ-loop
+list-same-length-3 : (t : ℕ) → list-lts.Need-same-length-3 (list-c t) (list-at t) list.Post list-Inv-loop list-μ-loop
 list-same-length-3 t c = search needs
 
-list-returns-3 :
-    (t : ℕ) →
-    list-lts.Need-returns-3
-    (list-c t)
-    (list-at t) list.Post list-Inv-loop list-μ-loop
+list-returns-3 : (t : ℕ) → list-lts.Need-returns-3 (list-c t) (list-at t) list.Post list-Inv-loop list-μ-loop
 list-returns-3 t c = search (needs, list-steps)
 
 member-enum-told : (t : ℕ) → member-lts.Need-enum-told (member-c t) (member-at t) member.Post
 member-enum-told t c = search needs
+
+member-returns : (t : ℕ) → member-lts.Need-returns (member-c t) (member-at t) member.Post
+member-returns t c = search (needs, member-steps)
 
 member-enum-known-m : (t : ℕ) → member-lts.Need-enum-known-m (member-c t) (member-at t) member.Post
 member-enum-known-m t c = search needs
@@ -324,6 +277,9 @@ member-known-requires t c κs = search needs
 member-past-requires : (t : ℕ) → member-lts.Need-past-requires (member-c t) (member-at t) member.Post
 member-past-requires t c κs = search needs
 
+member-returns-2 : (t : ℕ) → member-lts.Need-returns-2 (member-c t) (member-at t) member.Post
+member-returns-2 t c = search (needs, member-steps)
+
 member-enum-known-m-2 : (t : ℕ) → member-lts.Need-enum-known-m-2 (member-c t) (member-at t) member.Post
 member-enum-known-m-2 t c = search needs
 
@@ -333,11 +289,23 @@ member-leaf-requires t c κs = search needs
 member-past-requires-2 : (t : ℕ) → member-lts.Need-past-requires-2 (member-c t) (member-at t) member.Post
 member-past-requires-2 t c κs = search needs
 
+member-same-length : (t : ℕ) → member-lts.Need-same-length (member-c t) (member-at t) member.Post
+member-same-length t c = search needs
+
+member-returns-3 : (t : ℕ) → member-lts.Need-returns-3 (member-c t) (member-at t) member.Post
+member-returns-3 t c = search (needs, member-steps)
+
 member-enum-known-m-3 : (t : ℕ) → member-lts.Need-enum-known-m-3 (member-c t) (member-at t) member.Post
 member-enum-known-m-3 t c = search needs
 
 member-item-requires : (t : ℕ) → member-lts.Need-item-requires (member-c t) (member-at t) member.Post
 member-item-requires t c κs = search (needs, smaller)
+
+member-same-length-2 : (t : ℕ) → member-lts.Need-same-length-2 (member-c t) (member-at t) member.Post
+member-same-length-2 t c = search needs
+
+member-returns-4 : (t : ℕ) → member-lts.Need-returns-4 (member-c t) (member-at t) member.Post
+member-returns-4 t c = search (needs, member-steps)
 
 member-enum-known-m-4 : (t : ℕ) → member-lts.Need-enum-known-m-4 (member-c t) (member-at t) member.Post
 member-enum-known-m-4 t c = search needs
@@ -351,11 +319,14 @@ member-begins-requires t c κs = search needs
 member-item-requires-2 : (t : ℕ) → member-lts.Need-item-requires-2 (member-c t) (member-at t) member.Post
 member-item-requires-2 t c κs = search (needs, smaller)
 
-member-same-length : (t : ℕ) → member-lts.Need-same-length (member-c t) (member-at t) member.Post
-member-same-length t c = search needs
+member-same-length-3 : (t : ℕ) → member-lts.Need-same-length-3 (member-c t) (member-at t) member.Post
+member-same-length-3 t c = search needs
 
-member-returns : (t : ℕ) → member-lts.Need-returns (member-c t) (member-at t) member.Post
-member-returns t c = search (needs, member-steps)
+member-returns-5 : (t : ℕ) → member-lts.Need-returns-5 (member-c t) (member-at t) member.Post
+member-returns-5 t c = search (needs, member-steps)
+
+member-returns-6 : (t : ℕ) → member-lts.Need-returns-6 (member-c t) (member-at t) member.Post
+member-returns-6 t c = search (needs, member-steps)
 
 member-enum-known-m-5 : (t : ℕ) → member-lts.Need-enum-known-m-5 (member-c t) (member-at t) member.Post
 member-enum-known-m-5 t c = search needs
@@ -369,11 +340,14 @@ member-leaf-requires-2 t c κs = search needs
 member-past-requires-3 : (t : ℕ) → member-lts.Need-past-requires-3 (member-c t) (member-at t) member.Post
 member-past-requires-3 t c κs = search needs
 
-member-same-length-2 : (t : ℕ) → member-lts.Need-same-length-2 (member-c t) (member-at t) member.Post
-member-same-length-2 t c = search needs
+member-same-length-4 : (t : ℕ) → member-lts.Need-same-length-4 (member-c t) (member-at t) member.Post
+member-same-length-4 t c = search needs
 
-member-returns-2 : (t : ℕ) → member-lts.Need-returns-2 (member-c t) (member-at t) member.Post
-member-returns-2 t c = search (needs, member-steps)
+member-returns-7 : (t : ℕ) → member-lts.Need-returns-7 (member-c t) (member-at t) member.Post
+member-returns-7 t c = search (needs, member-steps)
+
+member-returns-8 : (t : ℕ) → member-lts.Need-returns-8 (member-c t) (member-at t) member.Post
+member-returns-8 t c = search (needs, member-steps)
 
 member-enum-known-m-6 : (t : ℕ) → member-lts.Need-enum-known-m-6 (member-c t) (member-at t) member.Post
 member-enum-known-m-6 t c = search needs
@@ -390,11 +364,11 @@ member-enum-told-2 t c = search needs
 member-past-requires-4 : (t : ℕ) → member-lts.Need-past-requires-4 (member-c t) (member-at t) member.Post
 member-past-requires-4 t c κs = search needs
 
-member-same-length-3 : (t : ℕ) → member-lts.Need-same-length-3 (member-c t) (member-at t) member.Post
-member-same-length-3 t c = search needs
+member-same-length-5 : (t : ℕ) → member-lts.Need-same-length-5 (member-c t) (member-at t) member.Post
+member-same-length-5 t c = search needs
 
-member-returns-3 : (t : ℕ) → member-lts.Need-returns-3 (member-c t) (member-at t) member.Post
-member-returns-3 t c = search (needs, member-steps)
+member-returns-9 : (t : ℕ) → member-lts.Need-returns-9 (member-c t) (member-at t) member.Post
+member-returns-9 t c = search (needs, member-steps)
 
 member-is-content-requires : (t : ℕ) → member-lts.Need-is-content-requires (member-c t) (member-at t) member.Post
 member-is-content-requires t c κs = search needs
@@ -402,38 +376,14 @@ member-is-content-requires t c κs = search needs
 member-item-requires-3 : (t : ℕ) → member-lts.Need-item-requires-3 (member-c t) (member-at t) member.Post
 member-item-requires-3 t c κs = search (needs, smaller)
 
-member-same-length-4 : (t : ℕ) → member-lts.Need-same-length-4 (member-c t) (member-at t) member.Post
-member-same-length-4 t c = search needs
-
-member-returns-4 : (t : ℕ) → member-lts.Need-returns-4 (member-c t) (member-at t) member.Post
-member-returns-4 t c = search (needs, member-steps)
-
-member-item-requires-4 : (t : ℕ) → member-lts.Need-item-requires-4 (member-c t) (member-at t) member.Post
-member-item-requires-4 t c κs = search (needs, smaller)
-
-member-returns-5 : (t : ℕ) → member-lts.Need-returns-5 (member-c t) (member-at t) member.Post
-member-returns-5 t c = search (needs, member-steps)
-
-member-returns-6 : (t : ℕ) → member-lts.Need-returns-6 (member-c t) (member-at t) member.Post
-member-returns-6 t c = search (needs, member-steps)
-
-member-same-length-5 : (t : ℕ) → member-lts.Need-same-length-5 (member-c t) (member-at t) member.Post
-member-same-length-5 t c = search needs
-
-member-returns-7 : (t : ℕ) → member-lts.Need-returns-7 (member-c t) (member-at t) member.Post
-member-returns-7 t c = search (needs, member-steps)
-
 member-same-length-6 : (t : ℕ) → member-lts.Need-same-length-6 (member-c t) (member-at t) member.Post
 member-same-length-6 t c = search needs
 
-member-returns-8 : (t : ℕ) → member-lts.Need-returns-8 (member-c t) (member-at t) member.Post
-member-returns-8 t c = search (needs, member-steps)
-
-member-returns-9 : (t : ℕ) → member-lts.Need-returns-9 (member-c t) (member-at t) member.Post
-member-returns-9 t c = search (needs, member-steps)
-
 member-returns-10 : (t : ℕ) → member-lts.Need-returns-10 (member-c t) (member-at t) member.Post
 member-returns-10 t c = search (needs, member-steps)
+
+member-item-requires-4 : (t : ℕ) → member-lts.Need-item-requires-4 (member-c t) (member-at t) member.Post
+member-item-requires-4 t c κs = search (needs, smaller)
 
 member-same-length-7 : (t : ℕ) → member-lts.Need-same-length-7 (member-c t) (member-at t) member.Post
 member-same-length-7 t c = search needs
@@ -465,14 +415,14 @@ row-member-requires t c κs = search (needs, smaller)
 row-enum-known-passed : (t : ℕ) → row-lts.Need-enum-known-passed (row-c t) (row-at t) row.Post row-Inv-loop row-μ-loop
 row-enum-known-passed t c = search needs
 
-row-enum-told : (t : ℕ) → row-lts.Need-enum-told (row-c t) (row-at t) row.Post row-Inv-loop row-μ-loop
-row-enum-told t c = search needs
-
 row-same-length : (t : ℕ) → row-lts.Need-same-length (row-c t) (row-at t) row.Post row-Inv-loop row-μ-loop
 row-same-length t c = search needs
 
 row-returns : (t : ℕ) → row-lts.Need-returns (row-c t) (row-at t) row.Post row-Inv-loop row-μ-loop
 row-returns t c = search (needs, row-steps)
+
+row-enum-known-passed-2 : (t : ℕ) → row-lts.Need-enum-known-passed-2 (row-c t) (row-at t) row.Post row-Inv-loop row-μ-loop
+row-enum-known-passed-2 t c = search needs
 
 row-add-k : (t : ℕ) → row-lts.Need-add-k (row-c t) (row-at t) row.Post row-Inv-loop row-μ-loop
 row-add-k t c = search needs
@@ -500,49 +450,49 @@ pub +item+list+member+row-spec : {M : Type 1} → statement M
     (item-enum-known-b t)
     (item-leaf-requires t)
     (item-past-requires t)
+    (item-same-length t)
+    (item-returns t)
     (item-enum-known-b-2 t)
     (item-head-requires t)
     (item-enum-known-h t)
     (item-enum-told t)
     (item-past-requires-2 t)
-    (item-returns t)
+    (item-returns-2 t)
     (item-note-requires t)
     (item-row-requires t)
+    (item-same-length-2 t)
+    (item-returns-3 t)
     (item-enum-known-b-3 t)
     (item-list-head-requires t)
     (item-enum-known-h-2 t)
     (item-enum-told-2 t)
     (item-past-requires-3 t)
-    (item-returns-2 t)
+    (item-returns-4 t)
     (item-list-requires t)
     (item-enum-known-c t)
+    (item-same-length-3 t)
+    (item-returns-5 t)
     (item-enum-known-c-2 t)
     (item-note-requires-2 t)
+    (item-same-length-4 t)
+    (item-returns-6 t)
     (item-enum-known-b-4 t)
     (item-head-requires-2 t)
     (item-enum-known-h-3 t)
     (item-enum-told-3 t)
     (item-past-requires-4 t)
-    (item-returns-3 t)
+    (item-returns-7 t)
     (item-item-requires t)
     (item-enum-known-r t)
     (item-enum-told-4 t)
-    (item-same-length t)
-    (item-returns-4 t)
-    (item-close-requires t)
-    (item-same-length-2 t)
-    (item-returns-5 t)
-    (item-same-length-3 t)
-    (item-returns-6 t)
-    (item-same-length-4 t)
-    (item-returns-7 t)
     (item-same-length-5 t)
     (item-returns-8 t)
+    (item-close-requires t)
     (item-same-length-6 t)
     (item-returns-9 t))
-    (λ t. list-lts.spec
-    (list-c t)
-    (list-at t) list.Post list-Inv-loop list-μ-loop
+    (λ t. list-lts.spec (list-c t)
+    (list-at t)
+    list.Post list-Inv-loop list-μ-loop
     (list-loop-holds t)
     (list-same-length t)
     (list-returns t)
@@ -560,59 +510,60 @@ pub +item+list+member+row-spec : {M : Type 1} → statement M
     (member-at t)
     member.Post
     (member-enum-told t)
+    (member-returns t)
     (member-enum-known-m t)
     (member-known-requires t)
     (member-past-requires t)
+    (member-returns-2 t)
     (member-enum-known-m-2 t)
     (member-leaf-requires t)
     (member-past-requires-2 t)
+    (member-same-length t)
+    (member-returns-3 t)
     (member-enum-known-m-3 t)
     (member-item-requires t)
+    (member-same-length-2 t)
+    (member-returns-4 t)
     (member-enum-known-m-4 t)
     (member-tag-of-requires t)
     (member-begins-requires t)
     (member-item-requires-2 t)
-    (member-same-length t)
-    (member-returns t)
+    (member-same-length-3 t)
+    (member-returns-5 t)
+    (member-returns-6 t)
     (member-enum-known-m-5 t)
     (member-begins-requires-2 t)
     (member-leaf-requires-2 t)
     (member-past-requires-3 t)
-    (member-same-length-2 t)
-    (member-returns-2 t)
+    (member-same-length-4 t)
+    (member-returns-7 t)
+    (member-returns-8 t)
     (member-enum-known-m-6 t)
     (member-leaf-requires-3 t)
     (member-enum-known-h t)
     (member-enum-told-2 t)
     (member-past-requires-4 t)
-    (member-same-length-3 t)
-    (member-returns-3 t)
+    (member-same-length-5 t)
+    (member-returns-9 t)
     (member-is-content-requires t)
     (member-item-requires-3 t)
-    (member-same-length-4 t)
-    (member-returns-4 t)
-    (member-item-requires-4 t)
-    (member-returns-5 t)
-    (member-returns-6 t)
-    (member-same-length-5 t)
-    (member-returns-7 t)
     (member-same-length-6 t)
-    (member-returns-8 t)
-    (member-returns-9 t)
     (member-returns-10 t)
+    (member-item-requires-4 t)
     (member-same-length-7 t)
     (member-returns-11 t))
     λ t. row-lts.spec (row-c t)
-    (row-at t) row.Post row-Inv-loop row-μ-loop
+    (row-at t)
+    row.Post row-Inv-loop row-μ-loop
     (row-members-of-requires t)
     (row-loop-holds t)
     (row-mul-member t)
     (row-array-copy-out-member t)
     (row-member-requires t)
     (row-enum-known-passed t)
-    (row-enum-told t)
     (row-same-length t)
     (row-returns t)
+    (row-enum-known-passed-2 t)
     (row-add-k t)
     (row-loop-less t)
     (row-loop-again t)
