@@ -3,6 +3,7 @@ pub mod Reading
 pub mod Sheet
 pub mod Whole
 pub mod Fields
+pub mod About
 pub mod Scan
 pub mod SheetScan
 pub mod Places

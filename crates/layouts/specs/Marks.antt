@@ -1,5 +1,6 @@
--- Reading by positions, what it notes in the table of places. Assumes nothing.
--- Nobody has to believe this page: `Laws.Marks` proves that an accepted item notes its fields, and code is proved against its steps.
+-- Reading by positions, what it notes in the table of places, and behind it. Assumes nothing.
+-- Nobody has to believe this page: `Laws.Marks` proves that an accepted item notes its fields, `Laws.About` that a refused one notes whose fault
+-- it is, and code is proved against its steps.
 use Prim.Native.Nat.{ℕ, suc, zero, _+_, _-_}
 use mathlib.Core.Bool.{Bool, _&&_, _||_}
 use mathlib.Core.List.{List, [], _∷_}
@@ -7,9 +8,10 @@ use lib.ListN.{length, getD, set}
 use lib.Seq.{slice}
 use lib.Dec.{eqb, ltb}
 use Rattle.terms.specs.declared.Field.{Field}
+use Rattle.terms.specs.Names.{code}
 use Rattle.terms.specs.Numbers.{too-many-items}
 use Rattle.terms.specs.Answer.{pick}
-use Rattle.heads.specs.Scan.{headAt, outermostAt, beginsAt}
+use Rattle.heads.specs.Scan.{headAt, outermostAt, beginsAt, closeAt}
 use Rattle.heads.specs.declared.Seen.{Seen}
 use Rattle.heads.specs.declared.Seen.the-variants.{Item as At, Refused as Bad}
 use Rattle.heads.specs.declared.Step.{Step}
@@ -17,9 +19,9 @@ use Rattle.heads.specs.declared.Step.the-variants.{Next, Refused}
 use Rattle.contents.specs.Leaves.{Leaf, boolean}
 use Rattle.layouts.specs.Layout.{Item, leaf, node, list, wrap, Members, end, _▸_, Member, known, one, maybe, flag, choose, tagOf}
 use Rattle.layouts.specs.Whole.{sequence}
-use Rattle.layouts.specs.Scan.{leafAt, scan, scanPart}
+use Rattle.layouts.specs.Scan.{leafAt, scan, scans, scanPart}
 use Rattle.layouts.specs.Fields.{Entry}
-use Rattle.layouts.specs.Places.{slot, wanted}
+use Rattle.layouts.specs.Places.{table-size, slot, wanted}
 use Rattle.layouts.specs.declared.Tally.{Tally}
 use Rattle.layouts.specs.declared.Tally.the-variants.{Items, Refused as Uncounted}
 
@@ -38,6 +40,13 @@ unfoldable pub notes : List Entry → List ℕ → List ℕ
 notes [] d = d
 notes (x ∷ xs) d = notes xs (noted (x .name) (x .index) (x .place) (x .place + length (x .bytes)) (x .items) d)
 
+-- the name of a field that is refused, by its number and one more, behind the table: where a number stands there that is not taken
+unfoldable pub unblamed : List ℕ → Bool
+unblamed d = ltb table-size (length d) && eqb (getD d table-size 0) 0
+
+unfoldable pub blamed : Field → List ℕ → List ℕ
+blamed f d = pick (unblamed d) (set d table-size (code f + 1)) d
+
 -- the table after what was seen, read or counted; where it was refused, the table that is given
 abbrev pub afterSeen : Seen → List ℕ → (ℕ → ℕ → List ℕ) → List ℕ
 afterSeen (At a z) d k = k a z
@@ -46,6 +55,11 @@ afterSeen (Bad n p) d k = d
 abbrev pub afterStep : Step → List ℕ → (ℕ → List ℕ) → List ℕ
 afterStep (Next q) d k = k q
 afterStep (Refused n p) d k = d
+
+-- a refusal is noted as the name's
+abbrev pub blaming : Step → Field → List ℕ → List ℕ
+blaming (Next q) f d = d
+blaming (Refused n p) f d = blamed f d
 
 abbrev pub afterTally : Tally → List ℕ → (ℕ → List ℕ) → List ℕ
 afterTally (Items n) d k = k n
@@ -66,19 +80,19 @@ manyMarks f m zero j p e d = d
 manyMarks f m (suc n) j p e d = pick (ltb p e) (afterStep (f p) (m j p d) λ q. manyMarks f m n (suc j) q e (m j p d)) d
 
 unfoldable pub leafMarks : Leaf → Field → ℕ → List ℕ → ℕ → ℕ → List ℕ → List ℕ
-leafMarks l f k s p e d = afterSeen (leafAt l s p e) d λ a z. noted f k a z 0 d
+leafMarks l f k s p e d = afterSeen (leafAt l s p e) (blamed f d) λ a z. noted f k a z 0 d
 
 unfoldable mutual
   pub marks : Item → Field → ℕ → List ℕ → ℕ → ℕ → List ℕ → List ℕ
   marks (leaf l) f k s p e d = leafMarks l f k s p e d
-  marks (node t r) f k s p e d = afterSeen (headAt t s p e) d λ a z. marksAll r k s a z (noted f k p z 0 d)
+  marks (node t r) f k s p e d = afterSeen (headAt t s p e) (blamed f d) λ a z. blaming (scans r s a z) f (marksAll r k s a z (noted f k p z 0 d))
   marks (list t o n g i) f k s p e d =
-      afterSeen (headAt t s p e) d λ a z.
+      afterSeen (headAt t s p e) (blamed f d) λ a z.
       pick (o || ltb a z)
-      (afterTally (tally (λ q. scan i s q z) n 0 a z) (manyMarks (λ q. scan i s q z) (λ j q x. marks i g j s q z x) n 0 a z d) λ c.
+      (afterTally (tally (λ q. scan i s q z) n 0 a z) (blamed f (manyMarks (λ q. scan i s q z) (λ j q x. marks i g j s q z x) n 0 a z d)) λ c.
       noted f k p z c (manyMarks (λ q. scan i s q z) (λ j q x. marks i g j s q z x) n 0 a z d))
-      d
-  marks (wrap t i) f k s p e d = afterSeen (headAt t s p e) d λ a z. marks i f k s a z d
+      (blamed f d)
+  marks (wrap t i) f k s p e d = afterSeen (headAt t s p e) (blamed f d) λ a z. afterStep (scan i s a z) (marks i f k s a z d) λ q. blaming (closeAt q z) f (marks i f k s a z d)
 
   pub marksAll : Members → ℕ → List ℕ → ℕ → ℕ → List ℕ → List ℕ
   marksAll end k s p e d = d
@@ -90,7 +104,7 @@ unfoldable mutual
   marksPart (maybe f i) k s p e d = pick (beginsAt (tagOf i) s p e) (marks i f k s p e d) d
   marksPart (flag f) k s p e d = pick (beginsAt (boolean .tag) s p e) (leafMarks boolean f k s p e d) d
   marksPart (choose f l t g i j) k s p e d =
-      afterSeen (leafAt l s p e) d λ a z.
+      afterSeen (leafAt l s p e) (leafMarks l f k s p e d) λ a z.
       pick (t (slice a z s)) (marks i g k s z e (leafMarks l f k s p e d)) (marks j g k s z e (leafMarks l f k s p e d))
 
 -- a record at a position

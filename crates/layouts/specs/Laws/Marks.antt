@@ -25,7 +25,7 @@ use Rattle.layouts.specs.Scan.{scan}
 use Rattle.layouts.specs.Marks.{noted, notes, afterStep, thenTally, tally, manyMarks, leafMarks, marks, marksAll, marksPart}
 use Rattle.layouts.specs.declared.Tally.the-variants.{Items, Refused as Uncounted}
 use Rattle.layouts.specs.Laws.Reading.{leaf-back, leaf-next, many-back, finish-back, yes-back, backward, backwards, backwardPart}
-use Rattle.layouts.specs.Laws.Scan.{by-window, Onward, step, head-parts, leaf-parts, leaf-agree, begins-agree, enough-agree, item-on, part-on, scan-read, part-read}
+use Rattle.layouts.specs.Laws.Scan.{by-window, Onward, step, head-parts, leaf-parts, leaf-agree, begins-agree, enough-agree, close-agree, item-on, part-on, scan-read, scans-read, part-read}
 
 -- to note two lists in a row is to note the second after the first
 notes-append : (xs ys : List Entry) (d : List ℕ) → notes (xs ++ ys) d ≡ notes ys (notes xs d)
@@ -91,7 +91,7 @@ module _ (s : List ℕ) where
     marks-read (node t r) f k p e pe es x h d =
         by-bind _ _ _ h λ c e₁ e₂. by-bind _ _ _ e₂ λ v e₃ e₄.
         let b = head-place t p e pe es c e₁ in
-        rw (← good-inj e₄, e₁, ← backwards r (c .content) (c .start) v e₃ .0, ← b .3, ← b .4) (marksAll-read r k (c .start) (next c) (b .1) (b .2) v (rw (b .0) at e₃) _)
+        rw (← good-inj e₄, e₁, scans-read s r (c .start) (next c) (b .1) (b .2), ← b .0, e₃, ← backwards r (c .content) (c .start) v e₃ .0, ← b .3, ← b .4) (marksAll-read r k (c .start) (next c) (b .1) (b .2) v (rw (b .0) at e₃) _)
     marks-read (list t o n g i) f k p e pe es x h d =
         by-bind _ _ _ h λ c e₁ e₂. by-need _ _ _ _ _ e₂ λ y e₃. by-bind _ _ _ e₃ λ vs e₄ e₅.
         let b = head-place t p e pe es c e₁ in
@@ -109,7 +109,9 @@ module _ (s : List ℕ) where
         let b = head-place t p e pe es c e₁ in
         let u = finish-back left-over a z e₅ in
         let q : c .content ≡ encode i (a .value) = backward i (c .content) (c .start) a e₃ .0 ∙ ap (λ (y : List ℕ). encode i (a .value) ++ y) (u .0) ∙ append-nil (encode i (a .value)) in
-        rw (← good-inj e₆, e₁, ← u .1, ← q, ← b .3) (marks-read i f k (c .start) (next c) (b .1) (b .2) a (rw (b .0) at e₃) d)
+        let e₇ : read i (slice (c .start) (next c) s) (c .start) ≡ good a = rw (b .0) at e₃ in
+        let w = item-on s i (c .start) (next c) (b .1) (b .2) a e₇ in
+        rw (← good-inj e₆, e₁, scan-read s i (c .start) (next c) (b .1) (b .2), e₇, close-agree s a (next c) (w .0) (w .2) (b .2), e₅, ← u .1, ← q, ← b .3) (marks-read i f k (c .start) (next c) (b .1) (b .2) a e₇ d)
 
     -- so does a run of members
     pub marksAll-read : (r : Members) (k p e : ℕ) → p ≤ e → e ≤ length s → (v : Values r) → reads r (slice p e s) p ≡ good v → (d : List ℕ) → marksAll r k s p e d ≡ notes (runFields r k v p) d

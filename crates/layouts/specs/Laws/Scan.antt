@@ -187,7 +187,7 @@ module _ (s : List ℕ) where
   unfolding beginsAt begins
   begins-agree t p e pe es = by-window p e (λ u w. u && eqb (getD s p 0) t ≡ begins t w) pe es refl refl
 
-  close-agree : {A : Type 0} (a : Got A) (e : ℕ) → a .rest ≡ slice (a .after) e s → a .after ≤ e → e ≤ length s → closeAt (a .after) e ≡ whole e (finish left-over a)
+  pub close-agree : {A : Type 0} (a : Got A) (e : ℕ) → a .rest ≡ slice (a .after) e s → a .after ≤ e → e ≤ length s → closeAt (a .after) e ≡ whole e (finish left-over a)
   unfolding closeAt finish same need pick
   close-agree a e q ae es = rw q (by-window (a .after) e (λ u w. pick u (Refused left-over (a .after)) (Next e) ≡ whole e (finish left-over (got (a .value) w (a .after)))) ae es refl refl)
 

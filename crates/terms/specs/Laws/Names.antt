@@ -1,5 +1,5 @@
--- The numbers of the names: each is below their count, and each number below that is one name's. Assumes nothing.
-use mathlib.Core.Path.{_≡_, _∙_}
+-- The numbers of the names: each is below their count, each number below that is one name's, and a name is that of its number. Assumes nothing.
+use mathlib.Core.Path.{_≡_, refl, _∙_}
 use Prim.Native.Nat.{ℕ, suc, zero, _+_, _<_}
 use native.Mathlib.Omega.{arith}
 use mathlib.Core.Bool.{Bool, true, _&&_}
@@ -71,3 +71,49 @@ in-order k (x ∷ xs) t (suc i) h f = in-order (suc k) xs (and-r (eqb (code x) k
 pub code-name : (i : ℕ) → i < names-count → code (nameOf i) ≡ i
 unfolding inOrder
 code-name i h = in-order 0 names tt i h SealInformation ∙ omega arith
+
+-- a name is that of its number
+pub name-code : (f : Field) → nameOf (code f) ≡ f
+name-code SealInformation = refl
+name-code Header = refl
+name-code Vendor = refl
+name-code SealId = refl
+name-code Property = refl
+name-code SealType = refl
+name-code SealName = refl
+name-code ListKind = refl
+name-code CertificateList = refl
+name-code ListedCertificate = refl
+name-code ListedEntry = refl
+name-code ListedType = refl
+name-code ListedDigest = refl
+name-code Created = refl
+name-code Start = refl
+name-code End = refl
+name-code Picture = refl
+name-code PictureType = refl
+name-code PictureData = refl
+name-code Width = refl
+name-code Height = refl
+name-code SealCustomData = refl
+name-code SealCustomItem = refl
+name-code SealCustomId = refl
+name-code SealCustomCritical = refl
+name-code SealCustomValue = refl
+name-code MakerCertificate = refl
+name-code SealAlgorithm = refl
+name-code SealSignedValue = refl
+name-code SignedPart = refl
+name-code Seal = refl
+name-code SigningTime = refl
+name-code OriginalDigest = refl
+name-code PropertyText = refl
+name-code SignedCustomData = refl
+name-code SignedCustomItem = refl
+name-code SignedCustomId = refl
+name-code SignedCustomCritical = refl
+name-code SignedCustomValue = refl
+name-code SignerCertificate = refl
+name-code SignatureAlgorithm = refl
+name-code SignatureValue = refl
+name-code Stamp = refl
