@@ -8,3 +8,4 @@ pub mod Marks
 pub mod Places
 pub mod Each
 pub mod Way
+pub mod About

@@ -3,7 +3,7 @@ use mathlib.Core.Path.{_≡_, refl, sym, ap, _∙_}
 use mathlib.Core.Logic.{_≢_}
 use Prim.Native.Nat.{ℕ, suc, zero, _+_, _*_, _-_, _/_, _%_, _≤_, _<_}
 use native.Mathlib.Omega.{arith}
-use mathlib.Core.Bool.{Bool, not, _&&_}
+use mathlib.Core.Bool.{Bool, true, false, not, _&&_}
 use mathlib.Core.Option.{none, some}
 use mathlib.Core.List.{List, [], _∷_, _++_}
 use lib.ListN.{length, getD, set, take, drop, replicate, length-append, length-replicate, length-set, getD-replicate, List·getD-append}
@@ -13,10 +13,11 @@ use borrow.Author.Tests.{eq-eqb}
 use Rattle.terms.specs.declared.Field.{Field}
 use Rattle.terms.specs.Names.{code, nameOf}
 use Rattle.terms.specs.Laws.Names.{code-below, code-name}
+use Rattle.terms.specs.Answer.{pick}
 use Rattle.terms.specs.Laws.Answer.{test, and-l, and-r, both, pick-yes, pick-no}
 use Rattle.layouts.specs.Fields.{Entry, isField, first}
 use Rattle.layouts.specs.Places.{table-size, wanted-at, wanted, slot, under, numbersOf, Placed}
-use Rattle.layouts.specs.Marks.{free, noted, notes}
+use Rattle.layouts.specs.Marks.{free, filled, noted, notes}
 
 -- ---- a run of stores
 
@@ -53,6 +54,33 @@ under-is f d vs l h = ext-getD 0 (under f d) vs l λ j k. under-at f d j k ∙ h
 first-is : (f : Field) (d vs : List ℕ) → under f d ≡ vs → getD d (slot f) 0 ≡ getD vs 0 0
 unfolding under
 first-is f d vs e = ap (λ (y : List ℕ). getD y 0 0) e
+
+-- ---- noting
+
+module _ (f : Field) (k a z i : ℕ) (d : List ℕ) where
+  -- the table keeps its size
+  pub noted-size : length (noted f k a z i d) ≡ length d
+  unfolding noted pick
+  noted-size = go (eqb k (wanted d) && free d (slot f))
+    where
+      go : (b : Bool) → length (pick b (filled d (slot f) a (z - a) i) d) ≡ length d
+      go true = simp length-set
+      go false = refl
+
+  -- and what stands behind the names
+  pub noted-behind : (n : ℕ) → wanted-at ≤ n → getD (noted f k a z i d) n 0 ≡ getD d n 0
+  unfolding noted slot pick
+  noted-behind n h = go (eqb k (wanted d) && free d (slot f))
+    where
+      go : (b : Bool) → getD (pick b (filled d (slot f) a (z - a) i) d) n 0 ≡ getD d n 0
+      go true =
+          let c = code-below f in
+          let x : List ℕ = set d (slot f) 1 in
+          let y : List ℕ = set x (slot f + 1) a in
+          let w : List ℕ = set y (slot f + 2) (z - a) in
+          getD-set-other w (slot f + 3) n i 0 (λ q. omega arith) ∙ getD-set-other y (slot f + 2) n (z - a) 0 (λ q. omega arith)
+          ∙ getD-set-other x (slot f + 1) n a 0 (λ q. omega arith) ∙ getD-set-other d (slot f) n 1 0 (λ q. omega arith)
+      go false = refl
 
 -- ---- one field
 
@@ -91,19 +119,12 @@ noted-held x d t = pick-no _ _ _ t
 
 -- either way the table keeps its size
 length-noted : (x : Entry) (d : List ℕ) → length (noting x d) ≡ length d
-length-noted x d =
-    test (isNoted x d)
-    (λ t. rw (noted-free x d t) (length-sets d (slot (x .name)) (numbersOf (some x))))
-    (λ t. rw (noted-held x d t))
+length-noted x d = noted-size (x .name) (x .index) (x .place) (x .place + length (x .bytes)) (x .items) d
 
 -- and the index that is wanted
 wanted-noted : (x : Entry) (d : List ℕ) → wanted (noting x d) ≡ wanted d
-unfolding slot wanted
-wanted-noted x d =
-    let c = code-below (x .name) in
-    test (isNoted x d)
-    (λ t. rw (noted-free x d t) (sets-other (numbersOf (some x)) d (slot (x .name)) wanted-at (λ j k q. omega arith)))
-    (λ t. rw (noted-held x d t))
+unfolding wanted
+wanted-noted x d = noted-behind (x .name) (x .index) (x .place) (x .place + length (x .bytes)) (x .items) d wanted-at (omega arith)
 
 module _ (f : Field) where
   -- a field of another name, and one that is not noted, leave what stands under a name
