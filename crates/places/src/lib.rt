@@ -1,5 +1,5 @@
 // The table of places: under each name whether the field is there, where it starts, how many bytes it has, and of a list how many items;
-// after them the index of the item that is wanted of a list.
+// after them the index of the item that is wanted of a list. A table that has a number more holds there the name of the field that was refused.
 use slots::NUMBERS_EACH;
 use terms::Field;
 use terms::NAMES;
@@ -11,10 +11,10 @@ ghost use lib.ListN.{getD, drop, length as size};
 ghost use lib.Dec.{eqb};
 ghost use Rattle.layouts.specs.Places.{table-size, wanted, slot, under as numbersUnder};
 ghost use Rattle.layouts.specs.Laws.Places.{blank as blankTable};
-ghost use Rattle.layouts.specs.Marks.{free, filled, noted};
+ghost use Rattle.layouts.specs.Marks.{free, filled, noted, blamed};
 
 // Where the index that is wanted stands, behind the numbers under the names.
-const WANTED_AT: usize = NUMBERS_EACH * NAMES;
+pub const WANTED_AT: usize = NUMBERS_EACH * NAMES;
 
 // The numbers of a table.
 pub const TABLE_SIZE: usize = WANTED_AT + 1;
@@ -89,6 +89,19 @@ pub fn note(places: &mut [usize], f: Field, index: usize, start: usize, end: usi
         return;
     }
     fill(places, n, start, distance(start, end), items);
+}
+
+// Notes the name of a field that is refused, once, where the table has a number more than it needs.
+pub fn blame(places: &mut [usize], f: Field)
+    ensures { λ _. ⌜ now (places .exit) ≡ blamed f (now (places .entry)) ⌝ }
+{
+    if places.len() <= TABLE_SIZE {
+        return;
+    }
+    if places[TABLE_SIZE] != 0 {
+        return;
+    }
+    places[TABLE_SIZE] = slots::number_of(f) + 1;
 }
 
 // A number of a table; past its end they are zeros.

@@ -9,7 +9,7 @@ ghost use Rattle.terms.specs.Names.{names-count, nameOf};
 pub const NUMBERS_EACH: usize = 4;
 
 // A name's number.
-fn number_of(f: Field) -> usize
+pub fn number_of(f: Field) -> usize
     ensures { λ r. ⌜ (f ≡ nameOf r) × (r < names-count) ⌝ }
 {
     match f {
