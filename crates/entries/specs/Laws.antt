@@ -15,7 +15,7 @@ use Rattle.tags.specs.Tag.{tagByte}
 use Rattle.layouts.specs.Scan.{leafAt}
 use Rattle.primitives.specs.declared.Primitive.{Primitive}
 use Rattle.primitives.specs.Primitive.{leafOf}
-use Rattle.layouts.specs.Marks.{noted, leafMarks}
+use Rattle.layouts.specs.Marks.{noted, blamed, leafMarks}
 use Rattle.entries.specs.Entry.{leafWalk, listHeadAt}
 
 -- two answers at once, and each of them
@@ -31,9 +31,9 @@ tables {A} h = ap (λ (z : A × List ℕ). z .1) h
 -- ---- a primitive item
 
 module _ (f : Field) (n : ℕ) (s : List ℕ) (p e : ℕ) (d : List ℕ) (l : Primitive) (h : Seen) (j : h ≡ leafAt (leafOf l) s p e) where
-  pub leaf-refused : (m q : ℕ) → h ≡ Bad m q → (h, d) ≡ leafWalk (leafOf l) f n s p e d
+  pub leaf-refused : (m q : ℕ) (d′ : List ℕ) → h ≡ Bad m q → d′ ≡ blamed f d → (h, d′) ≡ leafWalk (leafOf l) f n s p e d
   unfolding leafWalk leafMarks
-  leaf-refused m q b = both j (rw (← j, b))
+  leaf-refused m q d′ b g = both j (rw (← j, b) g)
 
   pub leaf-taken : (a z : ℕ) (d′ : List ℕ) → h ≡ At a z → d′ ≡ noted f n a z 0 d → (At a z, d′) ≡ leafWalk (leafOf l) f n s p e d
   unfolding leafWalk leafMarks

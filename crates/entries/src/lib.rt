@@ -1,4 +1,4 @@
-// The first step into an item: a primitive item that is read and noted, and the head of a list.
+// The first step into an item: a primitive item that is read and noted, also where it is refused, and the head of a list.
 use heads::Seen;
 use primitives::Primitive;
 use tags::Tag;
@@ -23,6 +23,7 @@ pub fn leaf(
 {
     let h = leaves::leaf(s, primitive, at, end);
     let Seen::Item { start: a, end: z } = h else {
+        places::blame(places, name);
         return h;
     };
     places::note(places, name, index, a, z, 0);

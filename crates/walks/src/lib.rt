@@ -1,4 +1,4 @@
-// One reader over the table of layouts, which notes where each field stands. Each case returns by itself: an answer that the cases of a
+// One reader over the table of layouts, which notes where each field stands, and of a refusal the innermost field that it is about. Each case returns by itself: an answer that the cases of a
 // match share is copied once more.
 use heads::Seen;
 use heads::Step;
@@ -36,10 +36,18 @@ fn item(
         Build::Node(t, members) => {
             let h = items::head(s, t, at, end);
             let Seen::Item { start: a, end: z } = h else {
+                places::blame(places, name);
                 return edges::past(h);
             };
             places::note(places, name, index, at, z, 0);
-            return row(s, members, index, a, z, places);
+            let r = row(s, members, index, a, z, places);
+            match r {
+                Step::Refused(number, place) => {
+                    places::blame(places, name);
+                    return Step::Refused(number, place);
+                }
+                Step::Next(q) => return Step::Next(q),
+            }
         }
         Build::List {
             tag,
@@ -50,11 +58,15 @@ fn item(
         } => {
             let h = entries::list_head(s, tag, empty, at, end);
             let Seen::Item { start: a, end: z } = h else {
+                places::blame(places, name);
                 return edges::past(h);
             };
             let c = list(s, each, most, item_name, a, z, places);
             match c {
-                Tally::Refused(number, place) => return Step::Refused(number, place),
+                Tally::Refused(number, place) => {
+                    places::blame(places, name);
+                    return Step::Refused(number, place);
+                }
                 Tally::Items(n) => {
                     places::note(places, name, index, at, z, n);
                     return Step::Next(z);
@@ -64,13 +76,21 @@ fn item(
         Build::Wrap(t, y) => {
             let h = items::head(s, t, at, end);
             let Seen::Item { start: a, end: z } = h else {
+                places::blame(places, name);
                 return edges::past(h);
             };
             let r = item(s, y, name, index, a, z, places);
             let Step::Next(q) = r else {
                 return r;
             };
-            return edges::close(q, z);
+            let c = edges::close(q, z);
+            match c {
+                Step::Refused(number, place) => {
+                    places::blame(places, name);
+                    return Step::Refused(number, place);
+                }
+                Step::Next(n) => return Step::Next(n),
+            }
         }
     }
 }

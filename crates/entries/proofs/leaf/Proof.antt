@@ -1,4 +1,4 @@
--- `entries::leaf`: the value that was taken is noted.
+-- `entries::leaf`: the value that was taken is noted, or the name that is refused.
 use borrow.Author.Needs.{needs}
 use Rattle.entries.specs.Laws.{leaf-refused, leaf-taken}
 use Rattle.entries.proofs.leaf.Statement.{statement}
@@ -13,14 +13,20 @@ enum-known-h c = search needs
 enum-told : tie.Need-enum-told
 enum-told c = search needs
 
+blame-requires : tie.Need-blame-requires
+blame-requires c κs = search needs
+
+same-length : tie.Need-same-length
+same-length c = search needs
+
 returns : tie.Need-returns
 returns c = search (needs, leaf-refused)
 
 note-requires : tie.Need-note-requires
 note-requires c κs = search needs
 
-same-length : tie.Need-same-length
-same-length c = search needs
+same-length-2 : tie.Need-same-length-2
+same-length-2 c = search needs
 
 returns-2 : tie.Need-returns-2
 returns-2 c = search (needs, leaf-taken)
@@ -32,7 +38,9 @@ leaf-spec =
     leaf-requires
     enum-known-h
     enum-told
+    blame-requires
+    same-length
     returns
     note-requires
-    same-length
+    same-length-2
     returns-2)
