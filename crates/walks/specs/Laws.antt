@@ -42,7 +42,7 @@ use Rattle.rows.specs.Row.{membersOf}
 use Rattle.rows.specs.Size.{from, one-more, none-left, over}
 use Rattle.layouts.specs.declared.Tally.{Tally}
 use Rattle.layouts.specs.declared.Tally.the-variants.{Items, Refused as Uncounted}
-use Rattle.layouts.specs.Marks.{noted, afterSeen, afterStep, afterTally, thenTally, tally, manyMarks, leafMarks, marks, marksAll, recordMarks}
+use Rattle.layouts.specs.Marks.{noted, blamed, afterSeen, afterStep, afterTally, thenTally, tally, manyMarks, leafMarks, marks, marksAll, recordMarks}
 use Rattle.entries.specs.Entry.{listHeadAt, leafWalk}
 use Rattle.entries.specs.Laws.{both, answers, tables}
 use Rattle.walks.specs.Walk.{itemWalk, rowWalk, memberWalk, listWalk, recordWalk}
@@ -97,10 +97,10 @@ module _ (t : ℕ) (o : Bool) (n : ℕ) (g : Field) (i : Item) where
   list-scan s p e = seen-passed (headAt t s p e) (λ a z. o || ltb a z) no-item p _ _ λ a z. tally-many (λ q. scan i s q z) n 0 a z
 
   list-marks : (f : Field) (k : ℕ) (s : List ℕ) (p e : ℕ) (d : List ℕ) → marks (list t o n g i) f k s p e d
-      ≡ (afterSeen (listHeadAt t o s p e) d λ a z. afterTally (tally (λ q. scan i s q z) n 0 a z) (manyMarks (λ q. scan i s q z) (λ j q x. marks i g j s q z x) n 0 a z d) λ c.
+      ≡ (afterSeen (listHeadAt t o s p e) (blamed f d) λ a z. afterTally (tally (λ q. scan i s q z) n 0 a z) (blamed f (manyMarks (λ q. scan i s q z) (λ j q x. marks i g j s q z x) n 0 a z d)) λ c.
       noted f k p z c (manyMarks (λ q. scan i s q z) (λ j q x. marks i g j s q z x) n 0 a z d))
   unfolding marks listHeadAt
-  list-marks f k s p e d = after-passed (headAt t s p e) (λ a z. o || ltb a z) no-item p d _
+  list-marks f k s p e d = after-passed (headAt t s p e) (λ a z. o || ltb a z) no-item p (blamed f d) _
 
   -- the items of a list from its first on
   whole-list : (s : List ℕ) (p e : ℕ) (d : List ℕ) → listWalk i g n 0 s p e d ≡ (tally (λ q. scan i s q e) n 0 p e, manyMarks (λ q. scan i s q e) (λ j q x. marks i g j s q e x) n 0 p e d)
@@ -123,40 +123,50 @@ module _ (f : Field) (n : ℕ) (s : List ℕ) (p e : ℕ) (d : List ℕ) where
 
     module _ (t : Tag) (h : Seen) (j : h ≡ headAt (tagByte t) s p e) where
       module _ (m : Row) (i : k ≡ build.Node t m) where
-        pub node-refused : (c q : ℕ) (y : Step) → h ≡ Bad c q → y ≡ pastOf h → Reads y d
+        pub node-refused : (c q : ℕ) (y : Step) (d₁ : List ℕ) → h ≡ Bad c q → d₁ ≡ blamed f d → y ≡ pastOf h → Reads y d₁
         unfolding itemWalk scan marks
-        node-refused c q y b g = both (rw (l, i, ← j, b) (g ∙ ap pastOf b)) (rw (l, i, ← j, b))
+        node-refused c q y d₁ b o g = both (rw (l, i, ← j, b) (g ∙ ap pastOf b)) (rw (l, i, ← j, b) o)
 
-        pub node-members : (a z : ℕ) (y : Step) (d₁ d₂ : List ℕ) → h ≡ At a z → d₁ ≡ noted f n p z 0 d → (y, d₂) ≡ rowWalk (rowOf m) n s a z d₁ → Reads y d₂
-        unfolding itemWalk rowWalk scan marks
-        node-members a z y d₁ d₂ b o g = both (rw (l, i, ← j, b) (answers g)) (rw (l, i, ← j, b) (tables g ∙ ap (marksAll (rowOf m) n s a z) o))
+        module _ (a z : ℕ) (b : h ≡ At a z) (d₁ : List ℕ) (o : d₁ ≡ noted f n p z 0 d) (r : Step) (d₂ : List ℕ) (g : (r, d₂) ≡ rowWalk (rowOf m) n s a z d₁) where
+          pub node-bad : (c q : ℕ) (d₃ : List ℕ) → r ≡ Refused c q → d₃ ≡ blamed f d₂ → Reads (Refused c q) d₃
+          unfolding itemWalk rowWalk scan marks
+          node-bad c q d₃ v w = both (rw (l, i, ← j, b, ← answers g, v)) (rw (l, i, ← j, b, ← answers g, v, ← o, ← tables g) w)
+
+          pub node-whole : (q : ℕ) → r ≡ Next q → Reads (Next q) d₂
+          unfolding itemWalk rowWalk scan marks
+          node-whole q v = both (rw (l, i, ← j, b, ← answers g, v)) (rw (l, i, ← j, b, ← answers g, v, ← o) (tables g))
 
       module _ (u : Structure) (i : k ≡ build.Wrap t u) where
-        pub wrap-refused : (m q : ℕ) (y : Step) → h ≡ Bad m q → y ≡ pastOf h → Reads y d
+        pub wrap-refused : (m q : ℕ) (y : Step) (d₁ : List ℕ) → h ≡ Bad m q → d₁ ≡ blamed f d → y ≡ pastOf h → Reads y d₁
         unfolding itemWalk scan marks
-        wrap-refused m q y b g = both (rw (l, i, ← j, b) (g ∙ ap pastOf b)) (rw (l, i, ← j, b))
+        wrap-refused m q y d₁ b o g = both (rw (l, i, ← j, b) (g ∙ ap pastOf b)) (rw (l, i, ← j, b) o)
 
         module _ (a z : ℕ) (b : h ≡ At a z) (r : Step) (d₁ : List ℕ) (w : (r, d₁) ≡ itemWalk (layoutOf u) f n s a z d) where
           pub wrap-inner : (n q : ℕ) → r ≡ Refused n q → Reads r d₁
           unfolding itemWalk scan marks
-          wrap-inner n′ q o = both (rw (l, i, ← j, b, ← answers w, o)) (rw (l, i, ← j, b) (tables w))
+          wrap-inner n′ q o = both (rw (l, i, ← j, b, ← answers w, o)) (rw (l, i, ← j, b, ← answers w, o) (tables w))
 
-          pub wrap-close : (q : ℕ) (y : Step) → r ≡ Next q → y ≡ closeAt q z → Reads y d₁
-          unfolding itemWalk scan marks
-          wrap-close q y o g = both (rw (l, i, ← j, b, ← answers w, o) g) (rw (l, i, ← j, b) (tables w))
+          module _ (q : ℕ) (o : r ≡ Next q) (y : Step) (g : y ≡ closeAt q z) where
+            pub wrap-bad : (c v : ℕ) (d₂ : List ℕ) → y ≡ Refused c v → d₂ ≡ blamed f d₁ → Reads (Refused c v) d₂
+            unfolding itemWalk scan marks
+            wrap-bad c v d₂ m x = both (rw (l, i, ← j, b, ← answers w, o, ← g, m)) (rw (l, i, ← j, b, ← answers w, o, ← g, m, ← tables w) x)
+
+            pub wrap-whole : (v : ℕ) → y ≡ Next v → Reads (Next v) d₁
+            unfolding itemWalk scan marks
+            wrap-whole v m = both (rw (l, i, ← j, b, ← answers w, o, ← g, m)) (rw (l, i, ← j, b, ← answers w, o, ← g, m) (tables w))
 
     module _ (t : Tag) (o : Bool) (c : ℕ) (g : Field) (u : Structure) (i : k ≡ build.List t o c g u) (h : Seen) (j : h ≡ listHeadAt (tagByte t) o s p e) where
-      pub list-refused : (m q : ℕ) (y : Step) → h ≡ Bad m q → y ≡ pastOf h → Reads y d
+      pub list-refused : (m q : ℕ) (y : Step) (d₁ : List ℕ) → h ≡ Bad m q → d₁ ≡ blamed f d → y ≡ pastOf h → Reads y d₁
       unfolding itemWalk
-      list-refused m q y b r =
-          rw (l, i) (both (rw (list-scan (tagByte t) o c g (layoutOf u) s p e, ← j, b) (r ∙ ap pastOf b)) (rw (list-marks (tagByte t) o c g (layoutOf u) f n s p e d, ← j, b)))
+      list-refused m q y d₁ b v r =
+          rw (l, i) (both (rw (list-scan (tagByte t) o c g (layoutOf u) s p e, ← j, b) (r ∙ ap pastOf b)) (rw (list-marks (tagByte t) o c g (layoutOf u) f n s p e d, ← j, b) v))
 
       module _ (a z : ℕ) (b : h ≡ At a z) (v : Tally) (d₁ : List ℕ) (r : (v, d₁) ≡ listWalk (layoutOf u) g c 0 s a z d) where
-        pub list-bad : (n q : ℕ) → v ≡ Uncounted n q → Reads (Refused n q) d₁
+        pub list-bad : (n q : ℕ) (d₂ : List ℕ) → v ≡ Uncounted n q → d₂ ≡ blamed f d₁ → Reads (Refused n q) d₂
         unfolding itemWalk listWalk
-        list-bad n′ q y =
+        list-bad n′ q d₂ y y′ =
             let x = r ∙ whole-list (tagByte t) o c g (layoutOf u) s a z d in
-            rw (l, i) (both (rw (list-scan (tagByte t) o c g (layoutOf u) s p e, ← j, b, ← answers x, y)) (rw (list-marks (tagByte t) o c g (layoutOf u) f n s p e d, ← j, b, ← answers x, y) (tables x)))
+            rw (l, i) (both (rw (list-scan (tagByte t) o c g (layoutOf u) s p e, ← j, b, ← answers x, y)) (rw (list-marks (tagByte t) o c g (layoutOf u) f n s p e d, ← j, b, ← answers x, y, ← tables x) y′))
 
         pub list-all : (n′ : ℕ) (d₂ : List ℕ) → v ≡ Items n′ → d₂ ≡ noted f n p z n′ d₁ → Reads (Next z) d₂
         unfolding itemWalk listWalk
@@ -206,8 +216,8 @@ module _ (m : Member) (n : ℕ) (s : List ℕ) (p e : ℕ) (d : List ℕ) where
 
   module _ (f : Field) (l : Primitive) (c : Content) (g : Field) (x u : Structure) (i : m ≡ member.Choice f l c g x u) (h : Seen) (d₁ : List ℕ) (j : (h, d₁) ≡ leafWalk (leafOf l) f n s p e d) where
     pub choice-refused : (k q : ℕ) (y : Step) → h ≡ Bad k q → y ≡ pastOf h → ReadsPart y d₁
-    unfolding memberWalk leafWalk scan marks leafMarks
-    choice-refused k q y b o = rw i (both (rw (← answers j, b) (o ∙ ap pastOf b)) (rw (← answers j, b) (tables j ∙ rw (← answers j, b))))
+    unfolding memberWalk leafWalk scan marks
+    choice-refused k q y b o = rw i (both (rw (← answers j, b) (o ∙ ap pastOf b)) (rw (← answers j, b) (tables j)))
 
     module _ (a z : ℕ) (b : h ≡ At a z) (t : Bool) (o : t ≡ says c (slice a z s)) where
       pub choice-first : (y : Step) (d′ : List ℕ) → t ≡ true → (y, d′) ≡ itemWalk (layoutOf x) g n s z e d₁ → ReadsPart y d′
@@ -299,7 +309,7 @@ module _ (most : ℕ) (r : Members) (s : List ℕ) (p e : ℕ) (d : List ℕ) (h
 
 -- ---- what each function's answers are found by
 
-pub ruleset item-steps = (item-leaf, node-refused, node-members, list-refused, list-bad, list-all, wrap-refused, wrap-inner, wrap-close)
+pub ruleset item-steps = (item-leaf, node-refused, node-bad, node-whole, list-refused, list-bad, list-all, wrap-refused, wrap-inner, wrap-bad, wrap-whole)
 
 pub ruleset list-steps = (over, many-16, many-bad, many-end)
 

@@ -1,5 +1,5 @@
-// One reader over the table of layouts, which notes where each field stands, and of a refusal the innermost field that it is about. Each case returns by itself: an answer that the cases of a
-// match share is copied once more.
+// One reader over the table of layouts, which notes where each field stands, and of a refusal the innermost field that it is about: each item
+// that is refused notes its name, and the first name stays. Each case returns by itself: an answer that the cases of a match share is copied once more.
 use heads::Seen;
 use heads::Step;
 use layouts::Tally;

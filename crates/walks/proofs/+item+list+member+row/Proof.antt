@@ -6,7 +6,7 @@ use Rattle.structures.specs.Structure.{rowOf, layoutOf}
 use Rattle.rows.specs.Row.{row-width, membersOf}
 use Rattle.rows.specs.Size.{size, sizes, sizeOf, from, smaller, row-fewer, size-first, chain}
 use Rattle.walks.specs.Walk.{rowWalk, listWalk}
-use Rattle.walks.specs.Laws.{item-steps, list-steps, member-steps, row-steps, many-on, row-first, row-next}
+use Rattle.walks.specs.Laws.{node-bad, item-steps, list-steps, member-steps, row-steps, many-on, row-first, row-next}
 use Prim.Native.Nat.{ℕ, suc, _-_, _<_, _≤_}
 use borrow.Fn.Kinds.{In}
 use borrow.Fn.PlainCycle.{Measures, is, falls, and}
@@ -28,6 +28,7 @@ use Rattle.edges.proofs.close.Reads as close-reads
 use Rattle.edges.proofs.past.Reads as past-reads
 use Rattle.leaves.proofs.is_content.Reads as is-content-reads
 use Rattle.leaves.proofs.known.Reads as known-reads
+use Rattle.places.proofs.blame.Reads as blame-reads
 use Rattle.places.proofs.note.Reads as note-reads
 use Rattle.structures.proofs.build_of.Reads as build-of-reads
 use Rattle.rows.proofs.members_of.Reads as members-of-reads
@@ -74,7 +75,7 @@ abbrev row-below : ℕ → In 2 row-kinds.ps
 row-below t = and 2 row-kinds.ps (falls 2 row-kinds.ps _<_ μ-row t) row.Pre
 
 abbrev item-c : ℕ → item-lts.Claims
-item-c t = (build-of-reads.Asked, build-of-reads.Learnt, leaf-reads.Asked, leaf-reads.Learnt, past-reads.Asked, past-reads.Learnt, head-reads.Asked, head-reads.Learnt, note-reads.Asked, note-reads.Learnt, row-below t, row.Post, list-head-reads.Asked, list-head-reads.Learnt, list-below t, list.Post, item-below t, item.Post, close-reads.Asked, close-reads.Learnt)
+item-c t = (build-of-reads.Asked, build-of-reads.Learnt, leaf-reads.Asked, leaf-reads.Learnt, past-reads.Asked, past-reads.Learnt, head-reads.Asked, head-reads.Learnt, blame-reads.Asked, blame-reads.Learnt, note-reads.Asked, note-reads.Learnt, row-below t, row.Post, list-head-reads.Asked, list-head-reads.Learnt, list-below t, list.Post, item-below t, item.Post, close-reads.Asked, close-reads.Learnt)
 
 abbrev list-c : ℕ → list-lts.Claims
 list-c t = (item-below t, item.Post)
@@ -115,8 +116,14 @@ item-enum-known-h t c = search needs
 item-enum-told : (t : ℕ) → item-lts.Need-enum-told (item-c t) (item-at t) item.Post
 item-enum-told t c = search needs
 
+item-blame-requires : (t : ℕ) → item-lts.Need-blame-requires (item-c t) (item-at t) item.Post
+item-blame-requires t c κs = search needs
+
 item-past-requires-2 : (t : ℕ) → item-lts.Need-past-requires-2 (item-c t) (item-at t) item.Post
 item-past-requires-2 t c κs = search needs
+
+item-same-length-2 : (t : ℕ) → item-lts.Need-same-length-2 (item-c t) (item-at t) item.Post
+item-same-length-2 t c = search needs
 
 item-returns-2 : (t : ℕ) → item-lts.Need-returns-2 (item-c t) (item-at t) item.Post
 item-returns-2 t c = search (needs, item-steps)
@@ -127,11 +134,26 @@ item-note-requires t c κs = search needs
 item-row-requires : (t : ℕ) → item-lts.Need-row-requires (item-c t) (item-at t) item.Post
 item-row-requires t c κs = search (needs, smaller)
 
-item-same-length-2 : (t : ℕ) → item-lts.Need-same-length-2 (item-c t) (item-at t) item.Post
-item-same-length-2 t c = search needs
+item-enum-known-r : (t : ℕ) → item-lts.Need-enum-known-r (item-c t) (item-at t) item.Post
+item-enum-known-r t c = search needs
+
+item-blame-requires-2 : (t : ℕ) → item-lts.Need-blame-requires-2 (item-c t) (item-at t) item.Post
+item-blame-requires-2 t c κs = search needs
+
+item-same-length-3 : (t : ℕ) → item-lts.Need-same-length-3 (item-c t) (item-at t) item.Post
+item-same-length-3 t c = search needs
 
 item-returns-3 : (t : ℕ) → item-lts.Need-returns-3 (item-c t) (item-at t) item.Post
-item-returns-3 t c = search (needs, item-steps)
+item-returns-3 t c = search (needs, node-bad)
+
+item-enum-known-r-2 : (t : ℕ) → item-lts.Need-enum-known-r-2 (item-c t) (item-at t) item.Post
+item-enum-known-r-2 t c = search needs
+
+item-same-length-4 : (t : ℕ) → item-lts.Need-same-length-4 (item-c t) (item-at t) item.Post
+item-same-length-4 t c = search needs
+
+item-returns-4 : (t : ℕ) → item-lts.Need-returns-4 (item-c t) (item-at t) item.Post
+item-returns-4 t c = search (needs, item-steps)
 
 item-enum-known-b-3 : (t : ℕ) → item-lts.Need-enum-known-b-3 (item-c t) (item-at t) item.Post
 item-enum-known-b-3 t c = search needs
@@ -145,11 +167,17 @@ item-enum-known-h-2 t c = search needs
 item-enum-told-2 : (t : ℕ) → item-lts.Need-enum-told-2 (item-c t) (item-at t) item.Post
 item-enum-told-2 t c = search needs
 
+item-blame-requires-3 : (t : ℕ) → item-lts.Need-blame-requires-3 (item-c t) (item-at t) item.Post
+item-blame-requires-3 t c κs = search needs
+
 item-past-requires-3 : (t : ℕ) → item-lts.Need-past-requires-3 (item-c t) (item-at t) item.Post
 item-past-requires-3 t c κs = search needs
 
-item-returns-4 : (t : ℕ) → item-lts.Need-returns-4 (item-c t) (item-at t) item.Post
-item-returns-4 t c = search (needs, item-steps)
+item-same-length-5 : (t : ℕ) → item-lts.Need-same-length-5 (item-c t) (item-at t) item.Post
+item-same-length-5 t c = search needs
+
+item-returns-5 : (t : ℕ) → item-lts.Need-returns-5 (item-c t) (item-at t) item.Post
+item-returns-5 t c = search (needs, item-steps)
 
 item-list-requires : (t : ℕ) → item-lts.Need-list-requires (item-c t) (item-at t) item.Post
 item-list-requires t c κs = search (needs, smaller)
@@ -157,11 +185,14 @@ item-list-requires t c κs = search (needs, smaller)
 item-enum-known-c : (t : ℕ) → item-lts.Need-enum-known-c (item-c t) (item-at t) item.Post
 item-enum-known-c t c = search needs
 
-item-same-length-3 : (t : ℕ) → item-lts.Need-same-length-3 (item-c t) (item-at t) item.Post
-item-same-length-3 t c = search needs
+item-blame-requires-4 : (t : ℕ) → item-lts.Need-blame-requires-4 (item-c t) (item-at t) item.Post
+item-blame-requires-4 t c κs = search needs
 
-item-returns-5 : (t : ℕ) → item-lts.Need-returns-5 (item-c t) (item-at t) item.Post
-item-returns-5 t c = search (needs, item-steps)
+item-same-length-6 : (t : ℕ) → item-lts.Need-same-length-6 (item-c t) (item-at t) item.Post
+item-same-length-6 t c = search needs
+
+item-returns-6 : (t : ℕ) → item-lts.Need-returns-6 (item-c t) (item-at t) item.Post
+item-returns-6 t c = search (needs, item-steps)
 
 item-enum-known-c-2 : (t : ℕ) → item-lts.Need-enum-known-c-2 (item-c t) (item-at t) item.Post
 item-enum-known-c-2 t c = search needs
@@ -169,11 +200,11 @@ item-enum-known-c-2 t c = search needs
 item-note-requires-2 : (t : ℕ) → item-lts.Need-note-requires-2 (item-c t) (item-at t) item.Post
 item-note-requires-2 t c κs = search needs
 
-item-same-length-4 : (t : ℕ) → item-lts.Need-same-length-4 (item-c t) (item-at t) item.Post
-item-same-length-4 t c = search needs
+item-same-length-7 : (t : ℕ) → item-lts.Need-same-length-7 (item-c t) (item-at t) item.Post
+item-same-length-7 t c = search needs
 
-item-returns-6 : (t : ℕ) → item-lts.Need-returns-6 (item-c t) (item-at t) item.Post
-item-returns-6 t c = search (needs, item-steps)
+item-returns-7 : (t : ℕ) → item-lts.Need-returns-7 (item-c t) (item-at t) item.Post
+item-returns-7 t c = search (needs, item-steps)
 
 item-enum-known-b-4 : (t : ℕ) → item-lts.Need-enum-known-b-4 (item-c t) (item-at t) item.Post
 item-enum-known-b-4 t c = search needs
@@ -187,35 +218,56 @@ item-enum-known-h-3 t c = search needs
 item-enum-told-3 : (t : ℕ) → item-lts.Need-enum-told-3 (item-c t) (item-at t) item.Post
 item-enum-told-3 t c = search needs
 
+item-blame-requires-5 : (t : ℕ) → item-lts.Need-blame-requires-5 (item-c t) (item-at t) item.Post
+item-blame-requires-5 t c κs = search needs
+
 item-past-requires-4 : (t : ℕ) → item-lts.Need-past-requires-4 (item-c t) (item-at t) item.Post
 item-past-requires-4 t c κs = search needs
 
-item-returns-7 : (t : ℕ) → item-lts.Need-returns-7 (item-c t) (item-at t) item.Post
-item-returns-7 t c = search (needs, item-steps)
-
-item-item-requires : (t : ℕ) → item-lts.Need-item-requires (item-c t) (item-at t) item.Post
-item-item-requires t c κs = search (needs, smaller)
-
-item-enum-known-r : (t : ℕ) → item-lts.Need-enum-known-r (item-c t) (item-at t) item.Post
-item-enum-known-r t c = search needs
-
-item-enum-told-4 : (t : ℕ) → item-lts.Need-enum-told-4 (item-c t) (item-at t) item.Post
-item-enum-told-4 t c = search needs
-
-item-same-length-5 : (t : ℕ) → item-lts.Need-same-length-5 (item-c t) (item-at t) item.Post
-item-same-length-5 t c = search needs
+item-same-length-8 : (t : ℕ) → item-lts.Need-same-length-8 (item-c t) (item-at t) item.Post
+item-same-length-8 t c = search needs
 
 item-returns-8 : (t : ℕ) → item-lts.Need-returns-8 (item-c t) (item-at t) item.Post
 item-returns-8 t c = search (needs, item-steps)
 
-item-close-requires : (t : ℕ) → item-lts.Need-close-requires (item-c t) (item-at t) item.Post
-item-close-requires t c κs = search needs
+item-item-requires : (t : ℕ) → item-lts.Need-item-requires (item-c t) (item-at t) item.Post
+item-item-requires t c κs = search (needs, smaller)
 
-item-same-length-6 : (t : ℕ) → item-lts.Need-same-length-6 (item-c t) (item-at t) item.Post
-item-same-length-6 t c = search needs
+item-enum-known-r-3 : (t : ℕ) → item-lts.Need-enum-known-r-3 (item-c t) (item-at t) item.Post
+item-enum-known-r-3 t c = search needs
+
+item-enum-told-4 : (t : ℕ) → item-lts.Need-enum-told-4 (item-c t) (item-at t) item.Post
+item-enum-told-4 t c = search needs
+
+item-same-length-9 : (t : ℕ) → item-lts.Need-same-length-9 (item-c t) (item-at t) item.Post
+item-same-length-9 t c = search needs
 
 item-returns-9 : (t : ℕ) → item-lts.Need-returns-9 (item-c t) (item-at t) item.Post
 item-returns-9 t c = search (needs, item-steps)
+
+item-close-requires : (t : ℕ) → item-lts.Need-close-requires (item-c t) (item-at t) item.Post
+item-close-requires t c κs = search needs
+
+item-enum-known-c-3 : (t : ℕ) → item-lts.Need-enum-known-c-3 (item-c t) (item-at t) item.Post
+item-enum-known-c-3 t c = search needs
+
+item-blame-requires-6 : (t : ℕ) → item-lts.Need-blame-requires-6 (item-c t) (item-at t) item.Post
+item-blame-requires-6 t c κs = search needs
+
+item-same-length-10 : (t : ℕ) → item-lts.Need-same-length-10 (item-c t) (item-at t) item.Post
+item-same-length-10 t c = search needs
+
+item-returns-10 : (t : ℕ) → item-lts.Need-returns-10 (item-c t) (item-at t) item.Post
+item-returns-10 t c = search (needs, item-steps)
+
+item-enum-known-c-4 : (t : ℕ) → item-lts.Need-enum-known-c-4 (item-c t) (item-at t) item.Post
+item-enum-known-c-4 t c = search needs
+
+item-same-length-11 : (t : ℕ) → item-lts.Need-same-length-11 (item-c t) (item-at t) item.Post
+item-same-length-11 t c = search needs
+
+item-returns-11 : (t : ℕ) → item-lts.Need-returns-11 (item-c t) (item-at t) item.Post
+item-returns-11 t c = search (needs, item-steps)
 
 abbrev list-Inv-loop : list-lts.InvT-loop
 list-Inv-loop s x most name at end places₀ p₀ k₀ places p k = (k ≤ most) × (length places ≡ length places₀) × (listWalk (layoutOf x) name most 0 s at end places₀ ≡ listWalk (layoutOf x) name most k s p end places)
@@ -456,40 +508,57 @@ pub +item+list+member+row-spec : {M : Type 1} → statement M
     (item-head-requires t)
     (item-enum-known-h t)
     (item-enum-told t)
+    (item-blame-requires t)
     (item-past-requires-2 t)
+    (item-same-length-2 t)
     (item-returns-2 t)
     (item-note-requires t)
     (item-row-requires t)
-    (item-same-length-2 t)
+    (item-enum-known-r t)
+    (item-blame-requires-2 t)
+    (item-same-length-3 t)
     (item-returns-3 t)
+    (item-enum-known-r-2 t)
+    (item-same-length-4 t)
+    (item-returns-4 t)
     (item-enum-known-b-3 t)
     (item-list-head-requires t)
     (item-enum-known-h-2 t)
     (item-enum-told-2 t)
+    (item-blame-requires-3 t)
     (item-past-requires-3 t)
-    (item-returns-4 t)
+    (item-same-length-5 t)
+    (item-returns-5 t)
     (item-list-requires t)
     (item-enum-known-c t)
-    (item-same-length-3 t)
-    (item-returns-5 t)
+    (item-blame-requires-4 t)
+    (item-same-length-6 t)
+    (item-returns-6 t)
     (item-enum-known-c-2 t)
     (item-note-requires-2 t)
-    (item-same-length-4 t)
-    (item-returns-6 t)
+    (item-same-length-7 t)
+    (item-returns-7 t)
     (item-enum-known-b-4 t)
     (item-head-requires-2 t)
     (item-enum-known-h-3 t)
     (item-enum-told-3 t)
+    (item-blame-requires-5 t)
     (item-past-requires-4 t)
-    (item-returns-7 t)
-    (item-item-requires t)
-    (item-enum-known-r t)
-    (item-enum-told-4 t)
-    (item-same-length-5 t)
+    (item-same-length-8 t)
     (item-returns-8 t)
+    (item-item-requires t)
+    (item-enum-known-r-3 t)
+    (item-enum-told-4 t)
+    (item-same-length-9 t)
+    (item-returns-9 t)
     (item-close-requires t)
-    (item-same-length-6 t)
-    (item-returns-9 t))
+    (item-enum-known-c-3 t)
+    (item-blame-requires-6 t)
+    (item-same-length-10 t)
+    (item-returns-10 t)
+    (item-enum-known-c-4 t)
+    (item-same-length-11 t)
+    (item-returns-11 t))
     (λ t. list-lts.spec (list-c t)
     (list-at t)
     list.Post list-Inv-loop list-μ-loop
