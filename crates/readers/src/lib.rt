@@ -28,8 +28,8 @@ fn outcome(x: Step) -> Outcome
     }
 }
 
-// A record of at most `most` bytes that is the whole input, its fields noted: 5 if bytes are left over.
-fn whole(s: &[u8], x: Row, most: usize, places: &mut [usize]) -> Step
+// A record of at most `most` bytes that is the whole input, noted in a lent table of places: 5 if bytes are left over.
+pub fn whole(s: &[u8], x: Row, most: usize, places: &mut [usize]) -> Step
     ensures { λ r. ⌜ (r, now (places .exit)) ≡ wholeWalk most (rowOf x) (now (s .entry)) (now (places .entry)) ⌝ }
 {
     let r = walks::record(s, x, most, 0, s.len(), places);
