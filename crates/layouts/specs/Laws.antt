@@ -9,3 +9,4 @@ pub mod Places
 pub mod Each
 pub mod Way
 pub mod About
+pub mod Passed

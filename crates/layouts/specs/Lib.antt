@@ -4,6 +4,7 @@ pub mod Sheet
 pub mod Whole
 pub mod Fields
 pub mod About
+pub mod Passed
 pub mod Scan
 pub mod SheetScan
 pub mod Places

@@ -1,7 +1,8 @@
--- Records S and D, evaluated; `Parts`, `Sheets` and `Refusals` have more of them. Assumes nothing.
+-- Records S and D, evaluated; `Parts`, `Sheets`, `Refusals` and `About` have more of them. Assumes nothing.
 pub mod Parts
 pub mod Sheets
 pub mod Refusals
+pub mod About
 use mathlib.Core.Path.{_≡_, refl}
 use Prim.Native.Nat.{ℕ}
 use mathlib.Core.Bool.{Bool, true, _&&_}

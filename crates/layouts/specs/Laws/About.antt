@@ -1,29 +1,29 @@
 -- A refused record notes behind the table of places what it is refused about: `marks` agrees with `about`, for every layout. Assumes nothing.
-use mathlib.Core.Path.{_≡_, refl, sym, ap, _∙_}
+use mathlib.Core.Path.{_≡_, refl, sym, _∙_}
 use Prim.Native.Nat.{ℕ, suc, zero, _+_, _-_, _≤_, _<_}
 use native.Mathlib.Omega.{arith}
-use mathlib.Core.Bool.{Bool, true, false, not, _&&_, _||_}
+use mathlib.Core.Bool.{Bool, true, false, not}
 use mathlib.Core.List.{List, [], _∷_}
 use lib.ListN.{length, getD, set, length-set}
 use lib.Seq.{take-length, slice, getD-set-same}
-use lib.Dec.{T, T-not, eqb, ltb, eqb→eq, ltb→lt, lt→ltb}
+use lib.Dec.{T, eqb}
 use borrow.Author.Tests.{lt-ltb, ne-eqb}
 use Rattle.terms.specs.declared.Field.{Field}
 use Rattle.terms.specs.Names.{code, nameOf}
-use Rattle.terms.specs.Numbers.{left-over, no-item, too-many-items}
+use Rattle.terms.specs.Numbers.{left-over, too-many-items}
 use Rattle.terms.specs.Answer.{Res, good, fault, Got, got, pick, bind, need, enough, finish}
-use Rattle.terms.specs.Laws.Answer.{never, test, and-l, and-r, both, pick-yes, pick-no, by-bind, is-true, is-false}
+use Rattle.terms.specs.Laws.Answer.{never, test, by-bind, is-true, is-false}
 use Rattle.terms.specs.Laws.Names.{name-code}
-use Rattle.heads.specs.Head.{forms, Cut, head, outermost}
-use Rattle.heads.specs.Scan.{seen, headAt, outermostAt, closeAt}
+use Rattle.heads.specs.Head.{forms, Cut, outermost}
+use Rattle.heads.specs.Scan.{seen, headAt, outermostAt}
 use Rattle.heads.specs.Laws.Head.{outermost-back}
 use Rattle.heads.specs.declared.Step.{Step}
 use Rattle.heads.specs.declared.Step.the-variants.{Next, Refused}
 use Rattle.contents.specs.Leaves.{Leaf, boolean, only}
-use Rattle.layouts.specs.Layout.{Item, leaf, node, list, wrap, Members, end, _▸_, Member, known, one, maybe, flag, choose, tagOf, Value, Values, Part}
+use Rattle.layouts.specs.Layout.{Item, leaf, node, list, wrap, Members, end, _▸_, Member, known, one, maybe, flag, choose, tagOf, Values}
 use Rattle.layouts.specs.Reading.{next, readLeaf, begins, many, readOption, readFlag, readEither, read, reads, readPart}
 use Rattle.layouts.specs.Whole.{sequence, recordAt, accept}
-use Rattle.layouts.specs.Scan.{scan, scans, scanPart, wholeScan}
+use Rattle.layouts.specs.Scan.{scan, wholeScan}
 use Rattle.layouts.specs.Places.{table-size}
 use Rattle.layouts.specs.Marks.{noted, unblamed, blamed, blaming, afterSeen, afterStep, afterTally, thenTally, tally, manyMarks, leafMarks, marks, marksAll, marksPart, recordMarks}
 use Rattle.layouts.specs.About.{unread, aboutMany, about, aboutAll, aboutPart, recordAbout}
@@ -162,7 +162,7 @@ unfolding aboutMany
 about-none f g x zero b = refl
 about-none f g x (suc n) b = refl
 
-not-enough : (o : Bool) (w : List ℕ) → T (not (enough o w)) → w ≡ []
+pub not-enough : (o : Bool) (w : List ℕ) → T (not (enough o w)) → w ≡ []
 unfolding enough
 not-enough true w h = absurd h
 not-enough false [] h = refl

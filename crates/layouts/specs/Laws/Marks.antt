@@ -28,7 +28,7 @@ use Rattle.layouts.specs.Laws.Reading.{leaf-back, leaf-next, many-back, 
 use Rattle.layouts.specs.Laws.Scan.{by-window, Onward, step, head-parts, leaf-parts, leaf-agree, begins-agree, enough-agree, close-agree, item-on, part-on, scan-read, scans-read, part-read}
 
 -- to note two lists in a row is to note the second after the first
-notes-append : (xs ys : List Entry) (d : List ℕ) → notes (xs ++ ys) d ≡ notes ys (notes xs d)
+pub notes-append : (xs ys : List Entry) (d : List ℕ) → notes (xs ++ ys) d ≡ notes ys (notes xs d)
 unfolding notes
 notes-append [] ys d = refl
 notes-append (x ∷ xs) ys d = notes-append xs ys (noted (x .name) (x .index) (x .place) (x .place + length (x .bytes)) (x .items) d)
@@ -41,7 +41,7 @@ by-pick false r r′ a x x′ y h f g = g h
 
 module _ (s : List ℕ) where
   -- what stands behind a head: a window of the slice, where it starts and where the item ends
-  head-place : (t p e : ℕ) → p ≤ e → e ≤ length s → (c : Cut) → head forms t (slice p e s) p ≡ good c
+  pub head-place : (t p e : ℕ) → p ≤ e → e ≤ length s → (c : Cut) → head forms t (slice p e s) p ≡ good c
       → (c .content ≡ slice (c .start) (next c) s) × (c .start ≤ next c) × (next c ≤ length s) × (c .start ≡ p + before (length (c .content))) × (next c ≡ p + length (tlv t (c .content)))
   head-place t p e pe es c h =
       let b = head-parts s t p e pe es c h in

@@ -143,7 +143,7 @@ abbrev behindList : List ℕ
 behindList = drop 42 recordS
 
 -- S with a list of none: each length around it is 3 less
-abbrev listOf0 : List ℕ
+abbrev pub listOf0 : List ℕ
 listOf0 =
     0x30 ∷ 0x81 ∷ 0x9F ∷ 0x30 ∷ 0x81 ∷ 0x8B ∷ 0x02 ∷ 0x01 ∷ 0x04
     ∷ 0x30 ∷ 0x6E ∷ 0x30 ∷ 0x5B ∷ beforeProperty
@@ -167,7 +167,7 @@ listOf64 =
     ++ 0x30 ∷ 0x81 ∷ 0xC0 ∷ certificatesAA 64 ++ behindList
 
 -- S with a list of 64 and an item of three bytes more: 195, 257, 289, 310, 341, 362
-abbrev listOf65 : List ℕ → List ℕ
+abbrev pub listOf65 : List ℕ → List ℕ
 listOf65 last =
     0x30 ∷ 0x82 ∷ 0x01 ∷ 0x6A ∷ 0x30 ∷ 0x82 ∷ 0x01 ∷ 0x55 ∷ 0x02 ∷ 0x01 ∷ 0x04
     ∷ 0x30 ∷ 0x82 ∷ 0x01 ∷ 0x36 ∷ 0x30 ∷ 0x82 ∷ 0x01 ∷ 0x21 ∷ beforeProperty
