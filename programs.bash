@@ -1,4 +1,4 @@
-# What check-record and sheet-record share: streams, options, the program, what is said. Each of them sources this, with its own name in
+# What check-record, sheet-record and show-record share: streams, options, the program, what is said. Each of them sources this, with its own name in
 # `command`, its `usage`, and in `duration` how long its program takes to prove and build from nothing; the files are left as arguments.
 # The program is proved and built first if it is missing or older than the crates; it is run under the kit's loader, and on a processor other
 # than x86-64 under the kit's emulator.

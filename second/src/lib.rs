@@ -10,6 +10,7 @@ pub mod item;
 pub mod record;
 pub mod refusal;
 pub mod run;
+pub mod screen;
 pub mod sheet;
 pub mod verdict;
 pub mod writer;

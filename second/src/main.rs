@@ -8,6 +8,7 @@ use second::generate::tree::signature_input;
 use second::generate::values::SignatureValue;
 use second::generate::{generate, SEED};
 use second::refusal::Refusal;
+use second::screen::{screen, Language, Pages};
 use second::writer::{fill_from_signature, write_signature};
 use std::fs::{self, File};
 use std::io::{self, BufReader, BufWriter, Read, Write};
@@ -28,6 +29,7 @@ const REFUSED: u8 = 1;
 const FAILED: u8 = 2;
 
 const USAGE: &str = "usage: second check [FILE] | second sheet [FILE] | second write [FILE]
+       second screen en FILE | second screen zh FILE
        second lines DIRECTORY | second answer CASES | second plain CASES
        second make DIRECTORY | second records DIRECTORY | second signatures CASES EACH DIRECTORY
 Exit status: 0 done, for check accepted; 1 refused; 2 failed.";
@@ -73,6 +75,8 @@ fn run(words: &[&str]) -> io::Result<ExitCode> {
             write_signatures(cases, each, Path::new(directory))
         }
         ["lines", directory] => print_lines(Path::new(directory)),
+        ["screen", "en", path] => return show(path, Language::English),
+        ["screen", "zh", path] => return show(path, Language::Chinese),
         ["-h" | "--help"] => writeln!(io::stdout(), "{USAGE}"),
         _ => Err(io::Error::other(USAGE)),
     }?;
@@ -100,6 +104,27 @@ fn check(input: impl Read, name: &str) -> io::Result<ExitCode> {
     let line = answer(&Case::Read { kind, record });
     writeln!(io::stdout(), "{line}")?;
     Ok(if line.starts_with("ACCEPTED") {
+        ExitCode::SUCCESS
+    } else {
+        ExitCode::from(REFUSED)
+    })
+}
+
+/// Prints the screen of one signature record, with the labels and words of the pages in `docs`; gives whether it is accepted.
+fn show(path: &str, language: Language) -> io::Result<ExitCode> {
+    let mut record = Vec::new();
+    open(path)?
+        .take(MOST_READ)
+        .read_to_end(&mut record)
+        .map_err(|error| about(path, error))?;
+    let docs = Path::new(env!("CARGO_MANIFEST_DIR")).with_file_name("docs");
+    let pages = Pages {
+        fields: fs::read_to_string(docs.join("FIELDS.md"))?,
+        numbers: fs::read_to_string(docs.join("NUMBERS.md"))?,
+    };
+    let (text, accepted) = screen(&record, language, &pages);
+    write!(io::stdout(), "{text}")?;
+    Ok(if accepted {
         ExitCode::SUCCESS
     } else {
         ExitCode::from(REFUSED)

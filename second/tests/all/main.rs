@@ -8,3 +8,4 @@ mod numbers;
 mod paper;
 mod readings;
 mod round_trip;
+mod screen;
