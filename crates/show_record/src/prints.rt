@@ -28,6 +28,23 @@ pub fn text(text: &[u8]) -> usize {
     width(text)
 }
 
+// How many bytes a row of a table has before the spaces that fill it up.
+fn filled(row: &[u8]) -> usize {
+    let mut n = row.len();
+    while 0 < n {
+        if row[n - 1] != b' ' {
+            return n;
+        }
+        n -= 1;
+    }
+    n
+}
+
+// Prints a row of a table without the spaces that fill it up, and answers how many columns it has.
+pub fn row(row: &[u8]) -> usize {
+    text(windows::window(row, 0, filled(row)))
+}
+
 // Prints so many spaces.
 pub fn spaces(n: usize) {
     let mut i = 0;
