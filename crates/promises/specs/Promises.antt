@@ -26,6 +26,9 @@ use Rattle.layouts.specs.Sheet.{sheets}
 use Rattle.layouts.specs.Whole.{sequence, recordOf, Allowed, recordAt, acceptSheet, fillSheet, writeRecord}
 use Rattle.layouts.specs.Fields.{Entry, fields, Stands, isField, first}
 use Rattle.layouts.specs.Places.{under, numbersOf, Placed}
+use Rattle.layouts.specs.About.{recordAbout}
+use Rattle.layouts.specs.declared.Whose.the-variants.{Nothing}
+use Rattle.layouts.specs.Laws.About as About
 use Rattle.layouts.specs.Laws.Reading.{clear, clears, spare}
 use Rattle.layouts.specs.Laws.Whole.{Wrote, Kept}
 use Rattle.layouts.specs.Laws.Whole as Whole
@@ -125,6 +128,13 @@ module _ (r : Members) (k : Clear r) where
   pub refused-is-told : (w : List ℕ) (n p : ℕ) → readRecord r w ≡ fault n p → (f : Field) (i : ℕ) (given : List ℕ)
       → (fieldAnswer r f i w ≡ refusal n p) × (matchAnswer r given w ≡ refusal n p) × (valueAnswer r f w ≡ refusal n p) × (criticalAnswer r f i w ≡ refusal n p) × (countAnswer r f w ≡ refusal n p)
   refused-is-told w n p e f i given = Handing.refused-told r w n p e f i given
+
+  -- a refusal is about the record or a field of it; where a record is accepted there is nothing
+  pub refused-is-about-something : (w : List ℕ) (n p : ℕ) → readRecord r w ≡ fault n p → recordAbout largest-record r w ≡ Nothing → ⊥
+  refused-is-about-something w n p e = About.refused-about largest-record r w n p e
+
+  pub accepted-is-about-nothing : (w : List ℕ) (v : Values r) → readRecord r w ≡ good v → recordAbout largest-record r w ≡ Nothing
+  accepted-is-about-nothing w v e = About.accepted-about largest-record r w v e
 
   -- a part that is handed out is the field's own bytes, and lies where they lie in the caller's record; of a refused record, or where no such field
   -- is there, it has no bytes and lies at the record's start. `z` is a part of `s` by a contract: of an accessor, or of the matching entry

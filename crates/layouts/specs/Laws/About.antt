@@ -4,7 +4,7 @@ use Prim.Native.Nat.{ℕ, suc, zero, _+_, _-_, _≤_, _<_}
 use native.Mathlib.Omega.{arith}
 use mathlib.Core.Bool.{Bool, true, false, not}
 use mathlib.Core.List.{List, [], _∷_}
-use lib.ListN.{length, getD, set, length-set}
+use lib.ListN.{length, getD, set, replicate, length-set, length-replicate}
 use lib.Seq.{take-length, slice, getD-set-same}
 use lib.Dec.{T, eqb}
 use borrow.Author.Tests.{lt-ltb, ne-eqb}
@@ -320,3 +320,25 @@ about-nothing most r s n h = go (accept most r s) (sym (whole-accept most r s) �
         → Nothing ≡ (unread y (unread (outermost forms most sequence s 0) Record λ c. aboutAll r Record (c .content) (c .start)) λ v. Nothing)
     go (good v) g = refl
     go (fault m p) g = never (cc)
+
+-- an accepted record is about nothing, a refused one about something
+pub accepted-about : (most : ℕ) (r : Members) (s : List ℕ) (v : Values r) → accept most r s ≡ good v → recordAbout most r s ≡ Nothing
+unfolding recordAbout
+accepted-about most r s v e = rw e
+
+named : (k : ℕ) → whoseBy Record k ≡ Nothing → ⊥
+unfolding whoseBy pick
+named k = go (eqb k 0)
+  where
+    go : (b : Bool) → pick b Record (field (nameOf (k - 1))) ≡ Nothing → ⊥
+    go true h = never (cc)
+    go false h = never (cc)
+
+pub refused-about : (most : ℕ) (r : Members) (s : List ℕ) (n p : ℕ) → accept most r s ≡ fault n p → recordAbout most r s ≡ Nothing → ⊥
+refused-about most r s n p e q = named (behindTable (recordMarks most r s 0 (length s) d)) (about-told most r s d fresh n p (whole-accept most r s ∙ rw e) ∙ q)
+  where
+    d : List ℕ
+    d = replicate (table-size + 1) 0
+
+    fresh : Fresh d
+    fresh = let l = length-replicate {A = ℕ} (table-size + 1) 0 in (omega arith, refl)
