@@ -1,15 +1,12 @@
 // The labels of the fields, as docs/FIELDS.md has them: a row for each name, in the order of the names, filled up with spaces.
 // A table is proved in seconds, a match with a text for each name in minutes.
-use crate::prints;
-use crate::words::Language;
-use terms::Field;
 use terms::NAMES;
 
 // The bytes of a row, as many as the longest label has.
-const ROW: usize = 33;
+pub const ROW: usize = 33;
 
 // The labels in English: the words of the fields' names.
-const ENGLISH: [[u8; ROW]; NAMES] = [
+pub const ENGLISH: [[u8; ROW]; NAMES] = [
     *b"seal information                 ",
     *b"header                           ",
     *b"vendor                           ",
@@ -56,7 +53,7 @@ const ENGLISH: [[u8; ROW]; NAMES] = [
 ];
 
 // The labels in Chinese: the words of GB/T 38540-2020.
-const CHINESE: [[u8; ROW]; NAMES] = [
+pub const CHINESE: [[u8; ROW]; NAMES] = [
     // 印章信息
     *b"\xe5\x8d\xb0\xe7\xab\xa0\xe4\xbf\xa1\xe6\x81\xaf                     ",
     // 印章头
@@ -144,18 +141,3 @@ const CHINESE: [[u8; ROW]; NAMES] = [
     // 对签名值的时间戳
     *b"\xe5\xaf\xb9\xe7\xad\xbe\xe5\x90\x8d\xe5\x80\xbc\xe7\x9a\x84\xe6\x97\xb6\xe9\x97\xb4\xe6\x88\xb3         ",
 ];
-
-// The label of a field.
-fn label(language: Language, f: Field) -> [u8; ROW] {
-    let n = slots::number_of(f);
-    match language {
-        Language::English => ENGLISH[n],
-        Language::Chinese => CHINESE[n],
-    }
-}
-
-// Prints a field's label, and answers how many columns it has.
-pub fn print(language: Language, f: Field) -> usize {
-    let row = label(language, f);
-    prints::row(&row)
-}

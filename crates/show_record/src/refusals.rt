@@ -1,15 +1,13 @@
 // Each refusal's number in words, as docs/NUMBERS.md has them: a row for each number of a record's refusals, from 1 on, filled up with spaces.
-use crate::prints;
-use crate::words::Language;
 
 // How many numbers there are.
-const NUMBERS: usize = 17;
+pub const NUMBERS: usize = 17;
 
 // The bytes of a row, as many as the longest has.
-const ROW: usize = 107;
+pub const ROW: usize = 107;
 
 // The numbers in English.
-const ENGLISH: [[u8; ROW]; NUMBERS] = [
+pub const ENGLISH: [[u8; ROW]; NUMBERS] = [
     *b"an item is missing: what encloses it, or the input, ends where it must begin                               ",
     *b"another item stands there: its tag is not the required one                                                 ",
     *b"the length is missing, cut off, or not in its one allowed form                                             ",
@@ -30,7 +28,7 @@ const ENGLISH: [[u8; ROW]; NUMBERS] = [
 ];
 
 // The numbers in Chinese.
-const CHINESE: [[u8; ROW]; NUMBERS] = [
+pub const CHINESE: [[u8; ROW]; NUMBERS] = [
     // 缺少一项：外层结构或输入在该项应当开始之处已经结束
     *b"\xe7\xbc\xba\xe5\xb0\x91\xe4\xb8\x80\xe9\xa1\xb9\xef\xbc\x9a\xe5\xa4\x96\xe5\xb1\x82\xe7\xbb\x93\xe6\x9e\x84\xe6\x88\x96\xe8\xbe\x93\xe5\x85\xa5\xe5\x9c\xa8\xe8\xaf\xa5\xe9\xa1\xb9\xe5\xba\x94\xe5\xbd\x93\xe5\xbc\x80\xe5\xa7\x8b\xe4\xb9\x8b\xe5\xa4\x84\xe5\xb7\xb2\xe7\xbb\x8f\xe7\xbb\x93\xe6\x9d\x9f                                ",
     // 此处是另外一项：其标签不是所要求的标签
@@ -66,23 +64,3 @@ const CHINESE: [[u8; ROW]; NUMBERS] = [
     // 记录声明的字节数（含头部）超过65535
     *b"\xe8\xae\xb0\xe5\xbd\x95\xe5\xa3\xb0\xe6\x98\x8e\xe7\x9a\x84\xe5\xad\x97\xe8\x8a\x82\xe6\x95\xb0\xef\xbc\x88\xe5\x90\xab\xe5\xa4\xb4\xe9\x83\xa8\xef\xbc\x89\xe8\xb6\x85\xe8\xbf\x8765535                                                         ",
 ];
-
-// The words of a number, of which `before` stand before it.
-fn words(language: Language, before: usize) -> [u8; ROW] {
-    if NUMBERS <= before {
-        return [b' '; ROW];
-    }
-    match language {
-        Language::English => ENGLISH[before],
-        Language::Chinese => CHINESE[before],
-    }
-}
-
-// Prints a refusal's number in words, and answers how many columns they have; a number that no record is refused with has none.
-pub fn print(language: Language, number: u8) -> usize {
-    if number == 0 {
-        return 0;
-    }
-    let row = words(language, (number - 1) as usize);
-    prints::row(&row)
-}

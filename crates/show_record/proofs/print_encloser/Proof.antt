@@ -27,8 +27,8 @@ loop-again c = search needs
 row-on-requires-2 : tie.Need-row-on-requires-2 Inv-loop μ-loop
 row-on-requires-2 c κs = search needs
 
-print-requires : tie.Need-print-requires Inv-loop μ-loop
-print-requires c κs = search needs
+print-name-requires : tie.Need-print-name-requires Inv-loop μ-loop
+print-name-requires c κs = search needs
 
 returns : tie.Need-returns Inv-loop μ-loop
 returns c = search needs
@@ -45,5 +45,5 @@ print-encloser-spec =
     loop-less
     loop-again
     row-on-requires-2
-    print-requires
+    print-name-requires
     returns)

@@ -19,11 +19,11 @@ loop-holds c = search needs
 print-encloser-requires : tie.Need-print-encloser-requires Inv-loop μ-loop
 print-encloser-requires c κs = search needs
 
-slice-aggregate-text : tie.Need-slice-aggregate-text Inv-loop μ-loop
-slice-aggregate-text c = search needs
+slice-aggregate-print-text : tie.Need-slice-aggregate-print-text Inv-loop μ-loop
+slice-aggregate-print-text c = search needs
 
-text-requires : tie.Need-text-requires Inv-loop μ-loop
-text-requires c κs = search needs
+print-text-requires : tie.Need-print-text-requires Inv-loop μ-loop
+print-text-requires c κs = search needs
 
 add-depth : tie.Need-add-depth Inv-loop μ-loop
 add-depth c = search needs
@@ -34,8 +34,8 @@ loop-less c = search needs
 loop-again : tie.Need-loop-again Inv-loop μ-loop
 loop-again c = search needs
 
-print-requires : tie.Need-print-requires Inv-loop μ-loop
-print-requires c κs = search needs
+print-name-requires : tie.Need-print-name-requires Inv-loop μ-loop
+print-name-requires c κs = search needs
 
 returns : tie.Need-returns Inv-loop μ-loop
 returns c = search needs
@@ -49,10 +49,10 @@ print-path-spec =
     row-on-requires
     loop-holds
     print-encloser-requires
-    slice-aggregate-text
-    text-requires
+    slice-aggregate-print-text
+    print-text-requires
     add-depth
     loop-less
     loop-again
-    print-requires
+    print-name-requires
     returns)

@@ -2,8 +2,8 @@
 use borrow.Author.Needs.{needs}
 use Prim.Native.Nat.{_-_}
 use lib.ListN.{length}
-use Rattle.show_record.proofs.values.character.Statement.{statement}
-use Rattle.show_record.proofs.values.character.Tie as tie
+use Rattle.show_record.proofs.character.Statement.{statement}
+use Rattle.show_record.proofs.character.Tie as tie
 
 abbrev Inv-loop : tie.InvT-loop
 Inv-loop bytes value₀ i₀ value i = Unit {0}

@@ -2,8 +2,8 @@
 use borrow.Author.Needs.{needs}
 use Prim.Native.Nat.{_-_, _≤_}
 use lib.ListN.{length}
-use Rattle.show_record.proofs.values.text.Statement.{statement}
-use Rattle.show_record.proofs.values.text.Tie as tie
+use Rattle.show_record.proofs.show_text.Statement.{statement}
+use Rattle.show_record.proofs.show_text.Tie as tie
 
 abbrev Inv-loop : tie.InvT-loop
 Inv-loop bytes i₀ t5 i = i ≤ length bytes
@@ -11,11 +11,11 @@ Inv-loop bytes i₀ t5 i = i ≤ length bytes
 abbrev μ-loop : tie.MeasureT-loop
 μ-loop bytes i₀ t5 i = length bytes - i
 
-slice-aggregate-print : tie.Need-slice-aggregate-print Inv-loop μ-loop
-slice-aggregate-print c = search needs
+slice-aggregate-print-plain : tie.Need-slice-aggregate-print-plain Inv-loop μ-loop
+slice-aggregate-print-plain c = search needs
 
-print-requires : tie.Need-print-requires Inv-loop μ-loop
-print-requires c κs = search needs
+print-plain-requires : tie.Need-print-plain-requires Inv-loop μ-loop
+print-plain-requires c κs = search needs
 
 loop-holds : tie.Need-loop-holds Inv-loop μ-loop
 loop-holds c = search needs
@@ -41,23 +41,23 @@ loop-less c = search needs
 loop-again : tie.Need-loop-again Inv-loop μ-loop
 loop-again c = search needs
 
-slice-aggregate-print-2 : tie.Need-slice-aggregate-print-2 Inv-loop μ-loop
-slice-aggregate-print-2 c = search needs
+slice-aggregate-print-plain-2 : tie.Need-slice-aggregate-print-plain-2 Inv-loop μ-loop
+slice-aggregate-print-plain-2 c = search needs
 
-print-requires-2 : tie.Need-print-requires-2 Inv-loop μ-loop
-print-requires-2 c κs = search needs
+print-plain-requires-2 : tie.Need-print-plain-requires-2 Inv-loop μ-loop
+print-plain-requires-2 c κs = search needs
 
 returns : tie.Need-returns Inv-loop μ-loop
 returns c = search needs
 
-pub text-spec : {M : Type 1} → statement M
-text-spec =
+pub show-text-spec : {M : Type 1} → statement M
+show-text-spec =
     tie.close
     (tie.spec
     Inv-loop
     μ-loop
-    slice-aggregate-print
-    print-requires
+    slice-aggregate-print-plain
+    print-plain-requires
     loop-holds
     end-of-requires
     sub-print-character
@@ -66,6 +66,6 @@ text-spec =
     print-character-requires
     loop-less
     loop-again
-    slice-aggregate-print-2
-    print-requires-2
+    slice-aggregate-print-plain-2
+    print-plain-requires-2
     returns)

@@ -1,8 +1,8 @@
 -- `show_record::prints::spaces`: each turn leaves fewer spaces.
 use borrow.Author.Needs.{needs}
 use Prim.Native.Nat.{_-_}
-use Rattle.show_record.proofs.prints.spaces.Statement.{statement}
-use Rattle.show_record.proofs.prints.spaces.Tie as tie
+use Rattle.show_record.proofs.print_spaces.Statement.{statement}
+use Rattle.show_record.proofs.print_spaces.Tie as tie
 
 abbrev Inv-loop : tie.InvT-loop
 Inv-loop n i₀ t3 i = Unit {0}
@@ -31,8 +31,8 @@ loop-again c = search needs
 returns : tie.Need-returns Inv-loop μ-loop
 returns c = search needs
 
-pub spaces-spec : {M : Type 1} → statement M
-spaces-spec =
+pub print-spaces-spec : {M : Type 1} → statement M
+print-spaces-spec =
     tie.close
     (tie.spec
     Inv-loop

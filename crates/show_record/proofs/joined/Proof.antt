@@ -2,8 +2,8 @@
 use borrow.Author.Needs.{needs}
 use Prim.Native.Nat.{_-_}
 use lib.ListN.{length}
-use Rattle.show_record.proofs.values.joined.Statement.{statement}
-use Rattle.show_record.proofs.values.joined.Tie as tie
+use Rattle.show_record.proofs.joined.Statement.{statement}
+use Rattle.show_record.proofs.joined.Tie as tie
 
 abbrev Inv-loop : tie.InvT-loop
 Inv-loop bytes value₀ i₀ value i = Unit {0}

@@ -2,8 +2,8 @@
 use Prim.Native.Nat.{_≤_}
 use lib.ListN.{length}
 use borrow.Author.Needs.{needs}
-use Rattle.show_record.proofs.prints.filled.Statement.{statement}
-use Rattle.show_record.proofs.prints.filled.Tie as tie
+use Rattle.show_record.proofs.filled.Statement.{statement}
+use Rattle.show_record.proofs.filled.Tie as tie
 
 abbrev Inv-loop : tie.InvT-loop
 Inv-loop row n₀ n = n ≤ length row

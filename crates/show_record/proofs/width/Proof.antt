@@ -2,8 +2,8 @@
 use borrow.Author.Needs.{needs}
 use Prim.Native.Nat.{_-_}
 use lib.ListN.{length}
-use Rattle.show_record.proofs.prints.width.Statement.{statement}
-use Rattle.show_record.proofs.prints.width.Tie as tie
+use Rattle.show_record.proofs.width.Statement.{statement}
+use Rattle.show_record.proofs.width.Tie as tie
 
 abbrev Inv-loop : tie.InvT-loop
 Inv-loop text n₀ i₀ n i = Unit {0}

@@ -2,8 +2,8 @@
 use borrow.Author.Needs.{needs}
 use Prim.Native.Nat.{_-_}
 use lib.ListN.{length}
-use Rattle.show_record.proofs.values.hex.Statement.{statement}
-use Rattle.show_record.proofs.values.hex.Tie as tie
+use Rattle.show_record.proofs.show_hex.Statement.{statement}
+use Rattle.show_record.proofs.show_hex.Tie as tie
 
 abbrev Inv-loop : tie.InvT-loop
 Inv-loop bytes i₀ t3 t4 i = Unit {0}
@@ -14,17 +14,17 @@ abbrev μ-loop : tie.MeasureT-loop
 loop-holds : tie.Need-loop-holds Inv-loop μ-loop
 loop-holds c = search needs
 
-slice-aggregate-print : tie.Need-slice-aggregate-print Inv-loop μ-loop
-slice-aggregate-print c = search needs
+slice-aggregate-print-plain : tie.Need-slice-aggregate-print-plain Inv-loop μ-loop
+slice-aggregate-print-plain c = search needs
 
-print-requires : tie.Need-print-requires Inv-loop μ-loop
-print-requires c κs = search needs
+print-plain-requires : tie.Need-print-plain-requires Inv-loop μ-loop
+print-plain-requires c κs = search needs
 
-slice-aggregate-print-2 : tie.Need-slice-aggregate-print-2 Inv-loop μ-loop
-slice-aggregate-print-2 c = search needs
+slice-aggregate-print-plain-2 : tie.Need-slice-aggregate-print-plain-2 Inv-loop μ-loop
+slice-aggregate-print-plain-2 c = search needs
 
-print-requires-2 : tie.Need-print-requires-2 Inv-loop μ-loop
-print-requires-2 c κs = search needs
+print-plain-requires-2 : tie.Need-print-plain-requires-2 Inv-loop μ-loop
+print-plain-requires-2 c κs = search needs
 
 returns : tie.Need-returns Inv-loop μ-loop
 returns c = search needs
@@ -50,17 +50,17 @@ loop-again c = search needs
 returns-2 : tie.Need-returns-2 Inv-loop μ-loop
 returns-2 c = search needs
 
-pub hex-spec : {M : Type 1} → statement M
-hex-spec =
+pub show-hex-spec : {M : Type 1} → statement M
+show-hex-spec =
     tie.close
     (tie.spec
     Inv-loop
     μ-loop
     loop-holds
-    slice-aggregate-print
-    print-requires
-    slice-aggregate-print-2
-    print-requires-2
+    slice-aggregate-print-plain
+    print-plain-requires
+    slice-aggregate-print-plain-2
+    print-plain-requires-2
     returns
     shared-slice-read-wide
     wide-requires
