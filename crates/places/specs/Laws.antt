@@ -2,7 +2,7 @@
 use mathlib.Core.Path.{_≡_, refl, sym, ap, _∙_}
 use Prim.Native.Nat.{ℕ, _+_, _-_, _<_, _≤_}
 use native.Mathlib.Omega.{arith}
-use mathlib.Core.Bool.{Bool, true, false, _&&_, not}
+use mathlib.Core.Bool.{Bool, true, false, _&&_, not, and-true, and-false}
 use mathlib.Core.List.{List, [], _∷_}
 use lib.ListN.{length, getD, set, drop, List·getD-eq-default}
 use lib.Dec.{T, eqb, ltb, ltb→lt}
@@ -17,21 +17,13 @@ use Rattle.layouts.specs.Marks.{free, filled, noted, unblamed, blamed}
 
 -- ---- noting a field
 
-and-no : (x : Bool) → x && false ≡ false
-and-no true = refl
-and-no false = refl
-
-and-yes : (x : Bool) → x && true ≡ x
-and-yes true = refl
-and-yes false = refl
-
 module _ (d : List ℕ) (n k : ℕ) (b : Bool) (f : b ≡ free d n) where
   pub not-free : b ≡ false → false ≡ eqb k (wanted d) && free d n
-  not-free h = rw (← f, h, and-no (eqb k (wanted d)))
+  not-free h = rw (← f, h, and-false (eqb k (wanted d)))
 
   pub if-wanted : (x : ℕ) → b ≡ true → x ≡ getD d wanted-at 0 → eqb k x ≡ eqb k (wanted d) && free d n
   unfolding wanted
-  if-wanted x h e = rw (← f, h, ← e, and-yes (eqb k x))
+  if-wanted x h e = rw (← f, h, ← e, and-true (eqb k x))
 
 module _ (f : Field) (k a z i : ℕ) (d : List ℕ) (n : ℕ) (b : Bool) (q : n ≡ slot f) (e : b ≡ eqb k (wanted d) && free d n) where
   pub noted-held : b ≡ false → d ≡ noted f k a z i d

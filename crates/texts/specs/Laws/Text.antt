@@ -3,12 +3,12 @@ use mathlib.Core.Path.{_≡_, refl, sym, _∙_}
 use Prim.Native.Nat.{ℕ, suc, zero, _+_, _-_, _≤_, _<_, max}
 use native.Mathlib.Omega.{arith}
 use native.Mathlib.Numerals.{add-one}
-use mathlib.Core.Bool.{Bool, true, false, _&&_}
+use mathlib.Core.Bool.{Bool, true, false, _&&_, and-true}
 use mathlib.Core.List.{List, [], _∷_}
 use lib.ListN.{length, getD, take, drop, replicate, length-drop, length-replicate, drop-of-length-le}
 use lib.Seq.{drop-cons, drop-drop}
 use lib.Dec.{T, leb, ltb, leb→le, ltb→lt, nltb→le}
-use borrow.Author.Tests.{le-leb, lt-leb, lt-ltb, le-ltb, not-true, not-false}
+use borrow.Author.Tests.{le-leb, lt-leb, lt-ltb, le-ltb}
 use Rattle.terms.specs.Answer.{pick, every}
 use Rattle.terms.specs.Laws.Answer.{never, test, and-l, and-r, is-true, is-false}
 use Rattle.contents.specs.Text.{Range, within, Character, character, starts, follows, textFrom, isText, ia5, printable, utf8}
@@ -153,11 +153,7 @@ module _ (w : List ℕ) (i low high : ℕ) where
 
     pub stands-high : low ≤ getD w i 0 → leb (getD w i 0) high ≡ goesOn ((low, high) ∷ []) (drop i w)
     unfolding goesOn within
-    stands-high l = rw (drop-cons w i 0, le-leb low (getD w i 0) l) (sym (yes (leb (getD w i 0) high)))
-      where
-        yes : (x : Bool) → x && true ≡ x
-        yes true = refl
-        yes false = refl
+    stands-high l = rw (drop-cons w i 0, le-leb low (getD w i 0) l) (sym (and-true (leb (getD w i 0) high)))
 
 -- the tails of a character: those that are left, from `k` on
 abbrev pub tails : ℕ → List Range
