@@ -34,7 +34,7 @@ pub extern "C" fn ennavizhil_signature_check(record: &[u8]) -> u64
 pub extern "C" fn ennavizhil_run_check(run: &[u8]) -> u64
     ensures { λ r. ⌜ r ≡ packedFirst (runAnswer signature (now (run .entry))) ⌝ }
 {
-    packs::run(run_walks::whole(run, Record::Signature))
+    run_packs::run(run_walks::whole(run, Record::Signature))
 }
 
 // A run read: how many records it has, or how many stand before the refusal.
@@ -42,7 +42,7 @@ pub extern "C" fn ennavizhil_run_check(run: &[u8]) -> u64
 pub extern "C" fn ennavizhil_run_records(run: &[u8]) -> u64
     ensures { λ r. ⌜ r ≡ recordsTold (runAnswer signature (now (run .entry))) ⌝ }
 {
-    packs::records(run_walks::whole(run, Record::Signature))
+    run_packs::records(run_walks::whole(run, Record::Signature))
 }
 
 // One step of a run: where the record at the position ends, the end, or the first refusal in it.
@@ -50,7 +50,7 @@ pub extern "C" fn ennavizhil_run_records(run: &[u8]) -> u64
 pub extern "C" fn ennavizhil_run_step(run: &[u8], position: usize, number: u64) -> u64
     ensures { λ r. ⌜ r ≡ packedStep (stepAnswer signature (now (run .entry)) (at position number)) (stepAfter signature (now (run .entry)) (at position number) .position) ⌝ }
 {
-    packs::step(run_walks::step(run, Record::Signature, position, number))
+    run_packs::step(run_walks::step(run, Record::Signature, position, number))
 }
 
 // The sheet of a seal: the bytes written, or the seal's refusal, then 20.
@@ -94,7 +94,7 @@ pub extern "C" fn ennavizhil_signature_write(sheet: &[u8], record: &mut [u8]) ->
 pub extern "C" fn ennavizhil_field_start(kind: u8, record: &[u8], field: u8, index: usize) -> u64
     ensures { λ r. ⌜ r ≡ packedFirst (askedField kind field index (now («record» .entry))) ⌝ }
 {
-    packs::start(asked::part(kind, record, field, index))
+    part_packs::start(asked::part(kind, record, field, index))
 }
 
 // How long a field is.
@@ -102,7 +102,7 @@ pub extern "C" fn ennavizhil_field_start(kind: u8, record: &[u8], field: u8, ind
 pub extern "C" fn ennavizhil_field_length(kind: u8, record: &[u8], field: u8, index: usize) -> u64
     ensures { λ r. ⌜ r ≡ packedSecond (askedField kind field index (now («record» .entry))) ⌝ }
 {
-    packs::length(asked::part(kind, record, field, index))
+    part_packs::length(asked::part(kind, record, field, index))
 }
 
 // Whether an integer is there.
@@ -110,7 +110,7 @@ pub extern "C" fn ennavizhil_field_length(kind: u8, record: &[u8], field: u8, in
 pub extern "C" fn ennavizhil_value_check(kind: u8, record: &[u8], field: u8) -> u64
     ensures { λ r. ⌜ r ≡ packedNumber (askedValue kind field (now («record» .entry))) ⌝ }
 {
-    packs::integer(asked::integer(kind, record, field))
+    value_packs::integer(asked::integer(kind, record, field))
 }
 
 // An integer, 0 where there is none.
@@ -118,7 +118,7 @@ pub extern "C" fn ennavizhil_value_check(kind: u8, record: &[u8], field: u8) -> 
 pub extern "C" fn ennavizhil_value(kind: u8, record: &[u8], field: u8) -> i64
     ensures { λ r. ⌜ r ≡ valueTold (askedValue kind field (now («record» .entry))) ⌝ }
 {
-    packs::value(asked::integer(kind, record, field))
+    value_packs::value(asked::integer(kind, record, field))
 }
 
 // Whether a custom item is critical, as 0 or 1.
@@ -126,7 +126,7 @@ pub extern "C" fn ennavizhil_value(kind: u8, record: &[u8], field: u8) -> i64
 pub extern "C" fn ennavizhil_critical(kind: u8, record: &[u8], field: u8, index: usize) -> u64
     ensures { λ r. ⌜ r ≡ packedFirst (askedCritical (kindOf kind) field index (now («record» .entry))) ⌝ }
 {
-    packs::critical(asked::critical(kind, record, field, index))
+    value_packs::critical(asked::critical(kind, record, field, index))
 }
 
 // How many items a list has.
@@ -134,7 +134,7 @@ pub extern "C" fn ennavizhil_critical(kind: u8, record: &[u8], field: u8, index:
 pub extern "C" fn ennavizhil_count(kind: u8, record: &[u8], field: u8) -> u64
     ensures { λ r. ⌜ r ≡ packedFirst (askedCount (kindOf kind) field (now («record» .entry))) ⌝ }
 {
-    packs::items(asked::items(kind, record, field))
+    value_packs::items(asked::items(kind, record, field))
 }
 
 // Where the first entry of the certificate list begins that is the given bytes.
@@ -142,7 +142,7 @@ pub extern "C" fn ennavizhil_count(kind: u8, record: &[u8], field: u8) -> u64
 pub extern "C" fn ennavizhil_matching_start(kind: u8, record: &[u8], given: &[u8]) -> u64
     ensures { λ r. ⌜ r ≡ packedFirst (askedMatch kind (now (given .entry)) (now («record» .entry))) ⌝ }
 {
-    packs::start(asked::matching_entry(kind, record, given))
+    part_packs::start(asked::matching_entry(kind, record, given))
 }
 
 // How long it is.
@@ -150,7 +150,7 @@ pub extern "C" fn ennavizhil_matching_start(kind: u8, record: &[u8], given: &[u8
 pub extern "C" fn ennavizhil_matching_length(kind: u8, record: &[u8], given: &[u8]) -> u64
     ensures { λ r. ⌜ r ≡ packedSecond (askedMatch kind (now (given .entry)) (now («record» .entry))) ⌝ }
 {
-    packs::length(asked::matching_entry(kind, record, given))
+    part_packs::length(asked::matching_entry(kind, record, given))
 }
 
 // The table of places of a seal, in a destination: the length of the seal, or the refusal.

@@ -6,8 +6,8 @@ use Rattle.packs.proofs.outcome.Tie as tie
 enum-known-o : tie.Need-enum-known-o
 enum-known-o c = search needs
 
-pack-requires : tie.Need-pack-requires
-pack-requires c κs = search needs
+done-requires : tie.Need-done-requires
+done-requires c κs = search needs
 
 enum-known-o-2 : tie.Need-enum-known-o-2
 enum-known-o-2 c = search needs
@@ -24,4 +24,4 @@ returns-2 c = cc
 pub outcome-spec : {M : Type 1} → statement M
 outcome-spec =
     tie.close
-    (tie.spec enum-known-o pack-requires enum-known-o-2 refused-requires returns returns-2)
+    (tie.spec enum-known-o done-requires enum-known-o-2 refused-requires returns returns-2)
