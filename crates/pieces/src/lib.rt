@@ -75,7 +75,7 @@ fn value(dst: &mut [u8], pos: usize, to: Side, p: Primitive, w: &[u8]) -> usize
     let n = b.times + w.len();
     let o = fronts::front(dst, pos, to, primitives::tag_of(p), true, n, n);
     let q = stores::repeated(dst, o, b.byte, b.times);
-    stores::copied(dst, q, w)
+    copies::copied(dst, q, w)
 }
 
 // A primitive item from a source.

@@ -1,12 +1,12 @@
--- `stores::copied`: what is left of the slice is still to be stored; past the end it is counted alone.
+-- `copies::copied`: what is left of the slice is still to be stored; past the end it is counted alone.
 use mathlib.Core.Path.{_≡_, refl}
 use Prim.Native.Nat.{_-_}
 use lib.ListN.{length, drop}
 use Rattle.stores.specs.Store.{puts}
 use Rattle.stores.specs.Laws.Steps.{copied-past, copied-on, copied-end, by-test}
 use borrow.Author.Needs.{needs}
-use Rattle.stores.proofs.copied.Statement.{statement}
-use Rattle.stores.proofs.copied.Tie as tie
+use Rattle.copies.proofs.copied.Statement.{statement}
+use Rattle.copies.proofs.copied.Tie as tie
 
 abbrev Inv-loop : tie.InvT-loop
 Inv-loop dst₀ o w p₀ i₀ dst p i = (length dst ≡ length dst₀) × (puts w dst₀ o ≡ puts (drop i w) dst p)

@@ -1,12 +1,12 @@
--- `stores::copy`: what is left of the slice is still to be stored, and has room.
+-- `copies::copy`: what is left of the slice is still to be stored, and has room.
 use mathlib.Core.Path.{_≡_}
 use Prim.Native.Nat.{_+_, _-_, _≤_}
 use lib.ListN.{length, drop}
 use Rattle.stores.specs.Store.{cap, puts}
 use Rattle.stores.specs.Laws.Steps.{room-cap, room-size, copy-first, copy-on, copy-end}
 use borrow.Author.Needs.{needs}
-use Rattle.stores.proofs.copy.Statement.{statement}
-use Rattle.stores.proofs.copy.Tie as tie
+use Rattle.copies.proofs.copy.Statement.{statement}
+use Rattle.copies.proofs.copy.Tie as tie
 
 abbrev Inv-loop : tie.InvT-loop
 Inv-loop dst₀ o w i₀ dst i = (length dst ≡ length dst₀) × (i ≤ length w) × (o + length w ≤ cap) × (o + length w ≤ length dst₀) × (puts w dst₀ o ≡ puts (drop i w) dst (o + i))
