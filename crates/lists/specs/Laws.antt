@@ -1,74 +1,26 @@
 -- Critical and counts by a table of places. Assumes nothing.
-use mathlib.Core.Path.{_≡_, refl, ap, _∙_}
+use mathlib.Core.Path.{_≡_, ap, _∙_}
 use Prim.Native.Nat.{ℕ}
-use mathlib.Core.Bool.{Bool, true, false, not}
-use mathlib.Core.Option.{Option, none, some}
-use mathlib.Core.List.{List, [], _∷_}
-use lib.ListN.{getD, drop}
-use lib.Dec.{eqb}
+use mathlib.Core.Bool.{Bool}
+use mathlib.Core.List.{List}
 use Rattle.terms.specs.declared.Field.{Field}
 use Rattle.terms.specs.declared.Field.the-variants.{SealCustomItem, SealCustomCritical, SignedCustomItem, SignedCustomCritical}
 use Rattle.terms.specs.Numbers.{done, largest-record}
-use Rattle.terms.specs.Answer.{good, pick, told-one}
+use Rattle.terms.specs.Answer.{pick, told-one}
 use Rattle.layouts.specs.Layout.{Members}
-use Rattle.layouts.specs.Fields.{Entry, isField, first, isThere}
-use Rattle.layouts.specs.Places.{slot, under, numbersOf, Placed}
+use Rattle.layouts.specs.Fields.{Entry, isField, first}
+use Rattle.layouts.specs.Places.{Placed}
 use Rattle.layouts.specs.Whole.{accept, toldOutcome}
 use Rattle.layouts.specs.declared.Outcome.{Outcome}
 use Rattle.layouts.specs.declared.Outcome.the-variants.{Length, Refused as Unread}
 use Rattle.records.specs.declared.Critical.{Critical}
-use Rattle.records.specs.declared.Critical.the-variants.{Is, Absent as NoCritical, Refused as CriticalRefused}
+use Rattle.records.specs.declared.Critical.the-variants.{Refused as CriticalRefused}
 use Rattle.records.specs.declared.Items.{Items}
-use Rattle.records.specs.declared.Items.the-variants.{Count, Absent as NoItems, Refused as ItemsRefused}
+use Rattle.records.specs.declared.Items.the-variants.{Refused as ItemsRefused}
 use Rattle.records.specs.Handing.{toldRecord, fieldsOf, fieldsIn, seek, tell, toldCritical, criticalAnswer, toldIs, toldItems}
 use Rattle.fields.specs.Laws.{sought-refused, sought-read, placed-in}
-use Rattle.lists.specs.List.{isUnder, criticalUnder, countUnder}
-
--- what stands under a name
-module _ (f : Field) (d : List ℕ) where
-  pub under-is : (b : Bool) → b ≡ not (eqb (getD d (slot f) 0) 0) → b ≡ isUnder f d
-  unfolding isUnder
-  under-is b h = h
-
-  there-under : (o : Option Entry) → under f d ≡ numbersOf o → isUnder f d ≡ isThere o
-  unfolding isUnder under isThere
-  there-under o h = ap (λ (x : List ℕ). not (eqb (getD x 0 0) 0)) h ∙ go o
-    where
-      go : (o : Option Entry) → not (eqb (getD (numbersOf o) 0 0) 0) ≡ isThere o
-      go none = refl
-      go (some x) = refl
-
-  -- how many items
-  pub count-some : (b : Bool) (a l n : ℕ) → b ≡ not (eqb (getD d (slot f) 0) 0) → b ≡ true → a ∷ l ∷ n ∷ [] ≡ drop 1 (under f d) → Count n ≡ countUnder f d
-  unfolding countUnder isUnder under pick
-  count-some b a l n h g e = rw (← h, g, ap (λ (x : List ℕ). getD x 2 0) e)
-
-  pub count-none : (b : Bool) → b ≡ not (eqb (getD d (slot f) 0) 0) → b ≡ false → NoItems ≡ countUnder f d
-  unfolding countUnder isUnder pick
-  count-none b h g = rw (← h, g)
-
-  count-told : (o : Option Entry) → under f d ≡ numbersOf o → toldItems (countUnder f d) ≡ tell (λ x. told-one done (x .items)) (good o)
-  unfolding countUnder under pick isThere
-  count-told none h = rw (there-under none h)
-  count-told (some x) h = rw (there-under (some x) h, ap (λ (y : List ℕ). getD y 3 0) h)
-
--- whether it is critical
-module _ (item flag : Field) (d : List ℕ) (b : Bool) (h : b ≡ isUnder item d) where
-  pub critical-item : (c : Bool) → b ≡ true → c ≡ isUnder flag d → Is c ≡ criticalUnder item flag d
-  unfolding criticalUnder pick
-  critical-item c g e = rw (← h, g, e)
-
-  pub critical-none : b ≡ false → NoCritical ≡ criticalUnder item flag d
-  unfolding criticalUnder pick
-  critical-none g = rw (← h, g)
-
-critical-told : (item flag : Field) (k : ℕ) (xs : List Entry) (d : List ℕ) → Placed k xs d → toldIs (criticalUnder item flag d) ≡ tell (toldCritical flag k xs) (good (first (isField item k) xs))
-unfolding criticalUnder pick isThere
-critical-told item flag k xs d p = rw (there-under item d (first (isField item k) xs) (p .1 item), there-under flag d (first (isField flag k) xs) (p .1 flag)) (go (first (isField item k) xs))
-  where
-    go : (o : Option Entry) → toldIs (pick (isThere o) (Is (isThere (first (isField flag k) xs))) NoCritical) ≡ tell (toldCritical flag k xs) (good o)
-    go none = refl
-    go (some x) = refl
+use Rattle.tallies.specs.Tally.{criticalUnder, countUnder}
+use Rattle.tallies.specs.Laws.{count-told, critical-told}
 
 -- in a record that was read
 module _ (r : Members) (w : List ℕ) (m : Members) (g : m ≡ r) (o : Outcome) (t : toldOutcome o ≡ toldRecord largest-record m w) where

@@ -12,25 +12,6 @@ ghost use Rattle.terms.specs.Numbers.{done};
 ghost use Rattle.layouts.specs.Fields.{isField};
 ghost use Rattle.records.specs.Record.{signature};
 ghost use Rattle.records.specs.Handing.{layoutOf, fieldsIn, seek, tell, toldCritical, criticalAnswer, countAnswer, toldIs, toldItems};
-ghost use Rattle.lists.specs.List.{isUnder, criticalUnder, countUnder};
-
-// Whether a table of places has a field.
-fn is_under(places: &[usize], f: Field) -> bool
-    ensures { λ r. ⌜ r ≡ isUnder f (now (places .entry)) ⌝ }
-{
-    let p = places::under(places, f);
-    p.there
-}
-
-// Whether an item that is there is critical: where the flag is left out it is not.
-fn critical_under(places: &[usize], item: Field, flag: Field) -> Critical
-    ensures { λ r. ⌜ r ≡ criticalUnder item flag (now (places .entry)) ⌝ }
-{
-    if is_under(places, item) {
-        return Critical::Is(is_under(places, flag));
-    }
-    Critical::Absent
-}
 
 // Whether an item of a record is critical.
 fn critical(s: &[u8], x: Record, item: Field, flag: Field, index: usize) -> Critical
@@ -40,20 +21,9 @@ fn critical(s: &[u8], x: Record, item: Field, flag: Field, index: usize) -> Crit
     let outcome = reading.outcome;
     let places = reading.places;
     match outcome {
-        Outcome::Length(_) => critical_under(&places, item, flag),
+        Outcome::Length(_) => tallies::critical_under(&places, item, flag),
         Outcome::Refused(number, place) => Critical::Refused(number, place),
     }
-}
-
-// How many items a list has that a table of places has.
-fn count_under(places: &[usize], f: Field) -> Items
-    ensures { λ r. ⌜ r ≡ countUnder f (now (places .entry)) ⌝ }
-{
-    let p = places::under(places, f);
-    if p.there {
-        return Items::Count(p.items);
-    }
-    Items::Absent
 }
 
 // How many items a list of a record has.
@@ -64,7 +34,7 @@ fn count(s: &[u8], x: Record, f: Field) -> Items
     let outcome = reading.outcome;
     let places = reading.places;
     match outcome {
-        Outcome::Length(_) => count_under(&places, f),
+        Outcome::Length(_) => tallies::count_under(&places, f),
         Outcome::Refused(number, place) => Items::Refused(number, place),
     }
 }

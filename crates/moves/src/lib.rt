@@ -186,7 +186,7 @@ fn member(
 {
     match m {
         Member::Blank => Moved { next: at, to: pos },
-        Member::Known(w) => pieces::known(s, from, to, w, at, end, dst, pos),
+        Member::Known(w) => known_pieces::known(s, from, to, w, at, end, dst, pos),
         Member::Leaf(_, primitive) => pieces::leaf(s, from, to, primitive, at, end, dst, pos),
         Member::Part(_, x) => item(s, from, to, x, at, end, dst, pos),
         Member::Maybe(_, x) => {
@@ -201,7 +201,7 @@ fn member(
                 to: o,
             }
         }
-        Member::Flag(_) => pieces::flag(s, from, to, at, end, dst, pos),
+        Member::Flag(_) => flag_pieces::flag(s, from, to, at, end, dst, pos),
         Member::Choice {
             by: _,
             primitive,

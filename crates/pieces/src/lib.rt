@@ -1,13 +1,12 @@
-// What has no parts, from a source to a destination: a primitive item, a flag and a known member.
+// A primitive item, from a source to a destination.
 use primitives::Primitive;
-use primitives::Word;
 use sides::Side;
 ghost use mathlib.Core.Path.{_≡_};
 ghost use Prim.Native.Nat.{_-_, _≤_};
 ghost use lib.ListN.{replicate};
 ghost use Rattle.contents.specs.Integer.{signOf};
-ghost use Rattle.primitives.specs.Primitive.{leafOf, knownOf};
-ghost use Rattle.sides.specs.Move.{leafOut, flagOut, knownOut, moveLeaf, moveKnown, moveFlag};
+ghost use Rattle.primitives.specs.Primitive.{leafOf};
+ghost use Rattle.sides.specs.Move.{leafOut, moveLeaf};
 ghost use Rattle.stores.specs.Store.{puts};
 ghost use Rattle.pieces.specs.Piece.{padding, wrote};
 
@@ -68,7 +67,7 @@ fn padding_of(to: Side, p: Primitive, w: &[u8]) -> Padding
 }
 
 // A value as a primitive item or a section.
-fn value(dst: &mut [u8], pos: usize, to: Side, p: Primitive, w: &[u8]) -> usize
+pub fn value(dst: &mut [u8], pos: usize, to: Side, p: Primitive, w: &[u8]) -> usize
     ensures { λ r. ⌜ (r, now (dst .exit)) ≡ puts (leafOut to (leafOf p) (now (w .entry))) (now (dst .entry)) pos ⌝ }
 {
     let b = padding_of(to, p, w);
@@ -94,75 +93,4 @@ pub fn leaf(
     let v = spans::value(s, from, p, at, end);
     let o = value(dst, pos, to, p, windows::window(s, v.start, v.end));
     Moved { next: v.end, to: o }
-}
-
-// A flag.
-fn flag_out(dst: &mut [u8], pos: usize, to: Side, v: bool) -> usize
-    ensures { λ r. ⌜ (r, now (dst .exit)) ≡ puts (flagOut to v) (now (dst .entry)) pos ⌝ }
-{
-    match to {
-        Side::Record => {
-            if v {
-                return value(dst, pos, to, Primitive::Critical, b"\xff");
-            }
-            pos
-        }
-        Side::Sheet => {
-            if v {
-                return value(dst, pos, to, Primitive::Critical, b"\x01");
-            }
-            value(dst, pos, to, Primitive::Critical, b"\x00")
-        }
-    }
-}
-
-// A flag from a source.
-pub fn flag(
-    s: &[u8],
-    from: Side,
-    to: Side,
-    at: usize,
-    end: usize,
-    dst: &mut [u8],
-    pos: usize,
-) -> Moved
-    ensures { λ r. ⌜ (r .next, r .to, now (dst .exit)) ≡ wrote (moveFlag from to (now (s .entry)) at end) (now (dst .entry)) pos ⌝ }
-{
-    let v = spans::flag(s, from, at, end);
-    let o = flag_out(dst, pos, to, v.there);
-    Moved {
-        next: v.start,
-        to: o,
-    }
-}
-
-// A known member, which a sheet has not.
-fn known_out(dst: &mut [u8], pos: usize, to: Side, w: Word) -> usize
-    ensures { λ r. ⌜ (r, now (dst .exit)) ≡ puts (knownOut to (knownOf w)) (now (dst .entry)) pos ⌝ }
-{
-    match to {
-        Side::Record => match w {
-            Word::HeaderName => value(dst, pos, to, Primitive::HeaderName, b"ES"),
-            Word::Version => value(dst, pos, to, Primitive::Version, b"\x04"),
-        },
-        Side::Sheet => pos,
-    }
-}
-
-// A known member from a source.
-pub fn known(
-    s: &[u8],
-    from: Side,
-    to: Side,
-    w: Word,
-    at: usize,
-    end: usize,
-    dst: &mut [u8],
-    pos: usize,
-) -> Moved
-    ensures { λ r. ⌜ (r .next, r .to, now (dst .exit)) ≡ wrote (moveKnown from to (knownOf w) (now (s .entry)) at end) (now (dst .entry)) pos ⌝ }
-{
-    let n = spans::known(s, from, w, at, end);
-    let o = known_out(dst, pos, to, w);
-    Moved { next: n, to: o }
 }

@@ -32,10 +32,10 @@ use Rattle.moves.proofs.row.Reads as row
 use Rattle.moves.proofs.row.Kinds as row-kinds
 use Rattle.moves.proofs.+content+held+item+list+member+row.Lts-row as row-lts
 use Rattle.moves.proofs.is_bare.Reads as is-bare-reads
-use Rattle.pieces.proofs.flag.Reads as flag-reads
+use Rattle.flag_pieces.proofs.flag.Reads as flag-reads
 use Rattle.fronts.proofs.front.Reads as front-reads
 use Rattle.spans.proofs.is_content.Reads as is-content-reads
-use Rattle.pieces.proofs.known.Reads as known-reads
+use Rattle.known_pieces.proofs.known.Reads as known-reads
 use Rattle.pieces.proofs.leaf.Reads as leaf-reads
 use Rattle.fronts.proofs.mark.Reads as mark-reads
 use Rattle.rows.proofs.members_of.Reads as members-of-reads

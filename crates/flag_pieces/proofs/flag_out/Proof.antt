@@ -1,8 +1,8 @@
--- `pieces::flag_out`: FF or nothing in a record, 1 or 0 in a sheet.
+-- `flag_pieces::flag_out`: FF or nothing in a record, 1 or 0 in a sheet.
 use borrow.Author.Needs.{needs}
 use Rattle.pieces.specs.Laws.{flag-none, flag-record, flag-one, flag-zero}
-use Rattle.pieces.proofs.flag_out.Statement.{statement}
-use Rattle.pieces.proofs.flag_out.Tie as tie
+use Rattle.flag_pieces.proofs.flag_out.Statement.{statement}
+use Rattle.flag_pieces.proofs.flag_out.Tie as tie
 
 enum-told : tie.Need-enum-told
 enum-told c = search needs

@@ -1,8 +1,8 @@
--- `lists::critical_under`: by the item, then by the flag.
-use Rattle.lists.specs.Laws.{critical-item, critical-none}
+-- `tallies::critical_under`: by the item, then by the flag.
+use Rattle.tallies.specs.Laws.{critical-item, critical-none}
 use borrow.Author.Needs.{needs}
-use Rattle.lists.proofs.critical_under.Statement.{statement}
-use Rattle.lists.proofs.critical_under.Tie as tie
+use Rattle.tallies.proofs.critical_under.Statement.{statement}
+use Rattle.tallies.proofs.critical_under.Tie as tie
 
 is-under-requires : tie.Need-is-under-requires
 is-under-requires c κs = search needs

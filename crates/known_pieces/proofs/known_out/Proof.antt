@@ -1,8 +1,8 @@
--- `pieces::known_out`: its one content in a record.
+-- `known_pieces::known_out`: its one content in a record.
 use borrow.Author.Needs.{needs}
 use Rattle.pieces.specs.Laws.{known-none, known-name, known-version}
-use Rattle.pieces.proofs.known_out.Statement.{statement}
-use Rattle.pieces.proofs.known_out.Tie as tie
+use Rattle.known_pieces.proofs.known_out.Statement.{statement}
+use Rattle.known_pieces.proofs.known_out.Tie as tie
 
 enum-told : tie.Need-enum-told
 enum-told c = search needs

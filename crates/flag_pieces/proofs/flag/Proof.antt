@@ -1,8 +1,8 @@
--- `pieces::flag`: as the source says.
+-- `flag_pieces::flag`: as the source says.
 use borrow.Author.Needs.{needs}
 use Rattle.pieces.specs.Laws.{flag-wrote}
-use Rattle.pieces.proofs.flag.Statement.{statement}
-use Rattle.pieces.proofs.flag.Tie as tie
+use Rattle.flag_pieces.proofs.flag.Statement.{statement}
+use Rattle.flag_pieces.proofs.flag.Tie as tie
 
 flag-requires : tie.Need-flag-requires
 flag-requires c κs = search needs

@@ -1,8 +1,8 @@
--- `lists::is_under`: what stands under the name.
-use Rattle.lists.specs.Laws.{under-is}
+-- `tallies::is_under`: what stands under the name.
+use Rattle.tallies.specs.Laws.{under-is}
 use borrow.Author.Needs.{needs}
-use Rattle.lists.proofs.is_under.Statement.{statement}
-use Rattle.lists.proofs.is_under.Tie as tie
+use Rattle.tallies.proofs.is_under.Statement.{statement}
+use Rattle.tallies.proofs.is_under.Tie as tie
 
 under-requires : tie.Need-under-requires
 under-requires c κs = search needs

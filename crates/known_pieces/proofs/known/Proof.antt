@@ -1,8 +1,8 @@
--- `pieces::known`: past it in the source, and as it is known.
+-- `known_pieces::known`: past it in the source, and as it is known.
 use borrow.Author.Needs.{needs}
 use Rattle.pieces.specs.Laws.{known-wrote}
-use Rattle.pieces.proofs.known.Statement.{statement}
-use Rattle.pieces.proofs.known.Tie as tie
+use Rattle.known_pieces.proofs.known.Statement.{statement}
+use Rattle.known_pieces.proofs.known.Tie as tie
 
 known-requires : tie.Need-known-requires
 known-requires c κs = search needs

@@ -1,8 +1,8 @@
--- `lists::count_under`: the number of items under the name.
-use Rattle.lists.specs.Laws.{count-some, count-none}
+-- `tallies::count_under`: the number of items under the name.
+use Rattle.tallies.specs.Laws.{count-some, count-none}
 use borrow.Author.Needs.{needs}
-use Rattle.lists.proofs.count_under.Statement.{statement}
-use Rattle.lists.proofs.count_under.Tie as tie
+use Rattle.tallies.proofs.count_under.Statement.{statement}
+use Rattle.tallies.proofs.count_under.Tie as tie
 
 under-requires : tie.Need-under-requires
 under-requires c κs = search needs
