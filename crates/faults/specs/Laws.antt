@@ -27,7 +27,8 @@ use Rattle.layouts.specs.declared.Whose.{Whose}
 use Rattle.layouts.specs.declared.Whose.the-variants.{Nothing, Record, Field as field}
 use Rattle.records.specs.Handing.{recordAnswer}
 use Rattle.entries.specs.Laws.{answers, tables}
-use Rattle.readers.specs.Outcome.{outcomeOf, wholeWalk}
+use Rattle.outcomes.specs.Outcome.{outcomeOf}
+use Rattle.readers.specs.Whole.{wholeWalk}
 use Rattle.readers.specs.Laws.{outcome-told}
 
 -- ---- a table, and a number more

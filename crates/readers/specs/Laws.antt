@@ -15,7 +15,6 @@ use Rattle.layouts.specs.Scan.{recordScan, wholeScan}
 use Rattle.layouts.specs.Laws.Scan.{whole, whole-accept}
 use Rattle.layouts.specs.Whole.{sequence, accept, toldOutcome}
 use Rattle.layouts.specs.declared.Outcome.{Outcome}
-use Rattle.layouts.specs.declared.Outcome.the-variants.{Length, Refused as Unread}
 use Rattle.records.specs.Handing.{toldRecord, fieldsOf}
 use Rattle.layouts.specs.Places.{Placed}
 use Rattle.layouts.specs.Marks.{notes, afterSeen, marksAll, recordMarks}
@@ -24,7 +23,8 @@ use Rattle.layouts.specs.Laws.Places.{blank, placed}
 use Rattle.layouts.specs.Laws.Marks.{accept-marks}
 use Rattle.walks.specs.Walk.{recordWalk}
 use Rattle.entries.specs.Laws.{answers, tables}
-use Rattle.readers.specs.Outcome.{outcomeOf, wholeWalk}
+use Rattle.outcomes.specs.Outcome.{outcomeOf}
+use Rattle.readers.specs.Whole.{wholeWalk}
 
 told : {A : Type 0} (n : ℕ) (x : Res A) → toldOutcome (outcomeOf (whole n x)) ≡ answered (λ v. n) x
 told n (good a) = refl
@@ -83,10 +83,3 @@ module _ (most : ℕ) (r : Members) (s d d′ : List ℕ) (x : Step) (w : (x, d�
     pub places-whole : (m : ℕ) → x ≡ Next m → Placed k (fieldsOf r (accept most r s)) d′
     unfolding wholeWalk
     places-whole m c = rw (tables w, b) (each-field most r s k m (sym (answers w) ∙ c))
-
-module _ (x : Step) where
-  pub outcome-next : (n : ℕ) → x ≡ Next n → Length n ≡ outcomeOf x
-  outcome-next n i = rw i
-
-  pub outcome-refused : (n p : ℕ) → x ≡ Refused n p → Unread n p ≡ outcomeOf x
-  outcome-refused n p i = rw i

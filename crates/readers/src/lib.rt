@@ -10,22 +10,12 @@ ghost use Rattle.layouts.specs.Whole.{accept, toldOutcome};
 ghost use Rattle.records.specs.Record.{seal, signature};
 ghost use Rattle.records.specs.Handing.{toldRecord, recordAnswer, fieldsOf, fieldsIn};
 ghost use Rattle.structures.specs.Structure.{rowOf};
-ghost use Rattle.readers.specs.Outcome.{outcomeOf, wholeWalk};
+ghost use Rattle.readers.specs.Whole.{wholeWalk};
 
 // What reading a record comes to; and, where it was accepted, the table of its places.
 pub struct Reading {
     pub outcome: Outcome,
     pub places: [usize; TABLE_SIZE],
-}
-
-// A step as what a caller is told.
-fn outcome(x: Step) -> Outcome
-    ensures { λ r. ⌜ r ≡ outcomeOf x ⌝ }
-{
-    match x {
-        Step::Next(n) => Outcome::Length(n),
-        Step::Refused(number, place) => Outcome::Refused(number, place),
-    }
 }
 
 // A record of at most `most` bytes that is the whole input, noted in a lent table of places: 5 if bytes are left over.
@@ -44,7 +34,7 @@ pub fn check(s: &[u8], x: Row, most: usize) -> Outcome
     ensures { λ r. ⌜ toldOutcome r ≡ toldRecord most (rowOf x) (now (s .entry)) ⌝ }
 {
     let mut none = [0usize; 0];
-    outcome(whole(s, x, most, &mut none))
+    outcomes::outcome(whole(s, x, most, &mut none))
 }
 
 // A record of at most `most` bytes, and where its fields stand: of those in a list, the one of an index.
@@ -56,12 +46,12 @@ pub fn read(s: &[u8], x: Row, most: usize, index: usize) -> Reading
     let r = whole(s, x, most, &mut places);
     let Step::Next(_) = r else {
         return Reading {
-            outcome: outcome(r),
+            outcome: outcomes::outcome(r),
             places: places::blank(index),
         };
     };
     Reading {
-        outcome: outcome(r),
+        outcome: outcomes::outcome(r),
         places: places,
     }
 }

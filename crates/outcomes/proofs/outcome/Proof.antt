@@ -1,8 +1,8 @@
--- `readers::outcome`: a step told to a caller.
-use Rattle.readers.specs.Laws.{outcome-next, outcome-refused}
+-- `outcomes::outcome`: a step told to a caller.
+use Rattle.outcomes.specs.Laws.{outcome-next, outcome-refused}
 use borrow.Author.Needs.{needs}
-use Rattle.readers.proofs.outcome.Statement.{statement}
-use Rattle.readers.proofs.outcome.Tie as tie
+use Rattle.outcomes.proofs.outcome.Statement.{statement}
+use Rattle.outcomes.proofs.outcome.Tie as tie
 
 enum-known-x : tie.Need-enum-known-x
 enum-known-x c = search needs
