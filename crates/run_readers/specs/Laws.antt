@@ -1,4 +1,4 @@
--- The part of a run that an answer names. Assumes nothing.
+-- The part of a run that a step hands out. Assumes nothing.
 use mathlib.Core.Path.{_≡_, refl, sym, ap, _∙_, subst}
 use Prim.Native.Nat.{ℕ, _+_, _-_, _≤_}
 use native.Mathlib.Omega.{arith}
@@ -17,20 +17,6 @@ use Rattle.runs.specs.declared.Stepped.{Stepped}
 use Rattle.runs.specs.declared.Stepped.the-variants.{Record, End, Refused}
 use Rattle.fields.specs.Handed.{within}
 use Rattle.fields.specs.Laws.{within-yes}
-
--- ---- the cut
-
-module _ (s z : RefT (List ℕ)) (y : Stepped) where
-  pub cut-record : (a l : ℕ) → y ≡ Record a l → PartOf s z (within (length (s .now)) (a, l)) → PartOf s z (within (length (s .now)) (handedRecord y))
-  cut-record a l i h = rw i h
-
-  pub cut-end : y ≡ End → PartOf s z (within (length (s .now)) (0, 0)) → PartOf s z (within (length (s .now)) (handedRecord y))
-  cut-end i h = rw i h
-
-  pub cut-refused : (n p k : ℕ) → y ≡ Refused n p k → PartOf s z (within (length (s .now)) (0, 0)) → PartOf s z (within (length (s .now)) (handedRecord y))
-  cut-refused n p k i h = rw i h
-
--- ---- a step
 
 -- what a step's answer names is the part that the step hands out
 module _ (r : Members) (s : List ℕ) (p k : ℕ) where

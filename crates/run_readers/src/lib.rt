@@ -1,5 +1,4 @@
 // The run reader: a struct over a lent run of signature records, a position and the number of records handed out, above functions on plain values.
-use records::Part;
 use records::Record;
 use runs::Moved;
 use runs::Stepped;
@@ -32,17 +31,6 @@ fn step(run: &[u8], position: usize, handed: u64) -> Moved
     run_walks::step(run, Record::Signature, position, handed)
 }
 
-// The part of a run that an answer names: where it names none, or one that does not lie in the run, no bytes, at the run's start.
-fn cut(run: &[u8], answer: Stepped) -> &[u8]
-    ensures { λ r. ⌜ PartOf (run .entry) r (within (length (now (run .entry))) (handedRecord answer)) ⌝ }
-{
-    match answer {
-        Stepped::Record { start, length } => fields::cut(run, Part::There { start, length }),
-        Stepped::End => fields::cut(run, Part::Absent),
-        Stepped::Refused(_, _, _) => fields::cut(run, Part::Absent),
-    }
-}
-
 // A run reader at the run's start.
 pub fn new<'a>(run: &'a [u8]) -> RunReader<'a>
     ensures { λ r. ⌜ (r .run ≡ run .entry) × ((r .position ≡ 0) × (r .handed ≡ 0)) ⌝ }
@@ -71,7 +59,7 @@ pub fn next<'a>(reader: RunReader<'a>) -> After<'a>
 pub fn part<'a>(after: After<'a>) -> &'a [u8]
     ensures { λ r. ⌜ PartOf (after .entry .run) r (within (length (now (after .entry .run))) (handedRecord (after .entry .answer))) ⌝ }
 {
-    cut(after.run, after.answer)
+    run_steps::cut(after.run, after.answer)
 }
 
 // The record at a position, as a part of the run: what a run reader hands out there, for a caller with a plain slice.

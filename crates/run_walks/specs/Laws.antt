@@ -8,7 +8,7 @@ use lib.ListN.{length, drop, length-append, length-drop, drop-of-length-le}
 use lib.Seq.{take-length, drop-at, drop-drop, slice}
 use Rattle.terms.specs.Numbers.{largest-record}
 use Rattle.terms.specs.Answer.{Res, good, fault, Got, bind}
-use Rattle.terms.specs.Laws.Answer.{never, by-bind, pick-lt, pick-ge}
+use Rattle.terms.specs.Laws.Answer.{never, by-bind}
 use Rattle.heads.specs.declared.Step.{Step}
 use Rattle.heads.specs.declared.Step.the-variants.{Next, Refused}
 use Rattle.layouts.specs.Layout.{Members, Values}
@@ -18,21 +18,13 @@ use Rattle.layouts.specs.Laws.Scan.{record-read}
 use Rattle.layouts.specs.Laws.Scan as Scan
 use Rattle.walks.specs.Walk.{recordWalk}
 use Rattle.entries.specs.Laws.{answers}
-use Rattle.runs.specs.Run.{Ran, whole, stopped, andThen, onward, runFrom, readRun, runAnswer, hereIn, hereAt, at, top, oneMore, stepAnswer, stepAfter, toldStepped, toldCounted, toldRan}
+use Rattle.runs.specs.Run.{Ran, whole, stopped, andThen, onward, runFrom, readRun, runAnswer, hereIn, hereAt, at, oneMore, stepAnswer, stepAfter, toldStepped, toldCounted, toldRan}
 use Rattle.runs.specs.Laws.Run.{enough, record-some, here-end, here-inside, here-back, step-ends, step-faults}
 use Rattle.runs.specs.declared.Stepped.the-variants.{Record, End, Refused as StepRefused}
 use Rattle.runs.specs.declared.Counted.the-variants.{Records, Refused as RunRefused}
 use Rattle.run_walks.specs.Walk.{runAt, toldBehind}
 
 -- ---- the code's own steps
-
-pub one-more : (n : ℕ) → n < top → n + 1 ≡ oneMore n
-unfolding oneMore
-one-more n h = pick-lt n top (n + 1) n h
-
-pub no-more : (n : ℕ) → top ≤ n → n ≡ oneMore n
-unfolding oneMore
-no-more n h = pick-ge n top (n + 1) n h
 
 pub here-walked : (most : ℕ) (r m : Members) (s d d′ : List ℕ) (p e : ℕ) (x : Step) → m ≡ r → (x, d′) ≡ recordWalk most m s p e d → x ≡ recordScan most r s p e
 unfolding recordWalk

@@ -10,20 +10,7 @@ ghost use lib.ListN.{length};
 ghost use Rattle.terms.specs.Numbers.{largest-record};
 ghost use Rattle.layouts.specs.Scan.{recordScan};
 ghost use Rattle.records.specs.Handing.{layoutOf};
-ghost use Rattle.runs.specs.Run.{at, oneMore, stepAnswer, stepAfter, runAnswer, held, toldStepped, toldCounted};
-
-// The largest number of records handed out.
-const TOP: u64 = 18446744073709551615;
-
-// One record more; a number at its top stays.
-fn one_more(number: u64) -> u64
-    ensures { λ r. ⌜ r ≡ oneMore number ⌝ }
-{
-    if TOP <= number {
-        return number;
-    }
-    number + 1
-}
+ghost use Rattle.runs.specs.Run.{at, stepAnswer, stepAfter, runAnswer, held, toldStepped, toldCounted};
 
 // The record at a position, whatever follows it: where it ends, or the first refusal in it.
 fn here(run: &[u8], x: Record, position: usize) -> Step
@@ -61,7 +48,7 @@ pub fn step(run: &[u8], x: Record, position: usize, handed: u64) -> Moved
         },
         Step::Next(end) => Moved {
             position: end,
-            handed: one_more(handed),
+            handed: run_steps::one_more(handed),
             answer: Stepped::Record {
                 start: position,
                 length: end - position,

@@ -52,10 +52,10 @@ use Rattle.fields.specs.Handed.{within}
 use Rattle.run_readers.specs.declared.After.{After}
 use Rattle.run_readers.proofs.After as T
 use Rattle.run_readers.proofs.After.Laws as T′
-use Rattle.run_readers.proofs.cut as cut
-use Rattle.run_readers.proofs.cut.Symbol as cut-def
-use Rattle.run_readers.proofs.cut.Symbol.{name as #run_readers·cut}
-use Rattle.run_readers.proofs.cut.Met as cut-thm
+use Rattle.run_steps.proofs.cut as cut
+use Rattle.run_steps.proofs.cut.Symbol as cut-def
+use Rattle.run_steps.proofs.cut.Symbol.{name as #run_readers·cut}
+use Rattle.run_steps.proofs.cut.Met as cut-thm
 use Rattle.run_readers.proofs.part.Key.{name as #run_readers·part}
 use Rattle.run_readers.proofs.part as part
 use Rattle.run_readers.proofs.part.Statement as stated
@@ -177,4 +177,4 @@ part-spec 𝓤 H 𝓜 𝓖 𝓡 =
     entered 𝓤 H (tripleOf 𝓤 H (𝓖 .A) part.signature (part.spec 𝓤 H (𝓖 .A) (𝓜 .mem) (𝓡 .run)))
     (tables 𝓤 H 𝓜 𝓡 code.env .C) (tables 𝓤 H 𝓜 𝓡 code.env .Λ) #run_readers·part code.function (code.unfolded 𝓤 H 𝓜 𝓡)
     (part-meets 𝓤 H (𝓖 .A) (givenOf 𝓤 H 𝓜 𝓖) (𝓜 .mem) (𝓡 .run) (tablesOf 𝓤 H 𝓜 (tables 𝓤 H 𝓜 𝓡 code.env))
-    (cited 𝓤 H (Cut 𝓤 H (𝓖 .A) (𝓜 .mem) (𝓡 .run)) 𝓜 𝓡 code.env #run_readers·cut cut-def.routine code.calls-run-readers·cut (cut-thm.met 𝓤 H 𝓜 𝓖 𝓡)))
+    (cited 𝓤 H (Cut 𝓤 H (𝓖 .A) (𝓜 .mem) (𝓡 .run)) 𝓜 𝓡 code.env #run_readers·cut cut-def.routine code.calls-run-steps·cut (cut-thm.met 𝓤 H 𝓜 𝓖 𝓡)))

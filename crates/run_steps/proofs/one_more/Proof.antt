@@ -1,8 +1,8 @@
--- `run_walks::one_more`: at the top, and below it.
-use Rattle.run_walks.specs.Laws.{one-more, no-more}
+-- `run_steps::one_more`: at the top, and below it.
+use Rattle.run_steps.specs.Laws.{one-more, no-more}
 use borrow.Author.Needs.{needs}
-use Rattle.run_walks.proofs.one_more.Statement.{statement}
-use Rattle.run_walks.proofs.one_more.Tie as tie
+use Rattle.run_steps.proofs.one_more.Statement.{statement}
+use Rattle.run_steps.proofs.one_more.Tie as tie
 
 returns : tie.Need-returns
 returns c = search (needs, no-more)

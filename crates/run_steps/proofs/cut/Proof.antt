@@ -1,8 +1,8 @@
--- `run_readers::cut`: the part that is named, else nothing.
-use Rattle.run_readers.specs.Laws.{cut-record, cut-end, cut-refused}
+-- `run_steps::cut`: the part that is named, else nothing.
+use Rattle.run_steps.specs.Laws.{cut-record, cut-end, cut-refused}
 use borrow.Author.Needs.{needs}
-use Rattle.run_readers.proofs.cut.Statement.{statement}
-use Rattle.run_readers.proofs.cut.Tie as tie
+use Rattle.run_steps.proofs.cut.Statement.{statement}
+use Rattle.run_steps.proofs.cut.Tie as tie
 
 enum-known-answer : tie.Need-enum-known-answer
 enum-known-answer c = search needs
