@@ -1,22 +1,15 @@
 -- What the first step into an item answers, a law for each case. Assumes nothing.
 use mathlib.Core.Path.{_≡_, refl, sym, ap, _∙_}
 use Prim.Native.Nat.{ℕ}
-use mathlib.Core.Bool.{Bool, true, false, _||_}
 use mathlib.Core.List.{List}
-use lib.Dec.{ltb}
 use Rattle.terms.specs.declared.Field.{Field}
-use Rattle.terms.specs.Numbers.{no-item}
-use Rattle.terms.specs.Answer.{pick}
-use Rattle.heads.specs.Scan.{headAt}
 use Rattle.heads.specs.declared.Seen.{Seen}
 use Rattle.heads.specs.declared.Seen.the-variants.{Item as At, Refused as Bad}
-use Rattle.tags.specs.declared.Tag.{Tag}
-use Rattle.tags.specs.Tag.{tagByte}
 use Rattle.layouts.specs.Scan.{leafAt}
 use Rattle.primitives.specs.declared.Primitive.{Primitive}
 use Rattle.primitives.specs.Primitive.{leafOf}
 use Rattle.layouts.specs.Marks.{noted, blamed, leafMarks}
-use Rattle.entries.specs.Entry.{leafWalk, listHeadAt}
+use Rattle.entries.specs.Entry.{leafWalk}
 
 -- two answers at once, and each of them
 pub both : {A : Type 0} {x y : A} {d d′ : List ℕ} → x ≡ y → d ≡ d′ → _≡_ {A = A × List ℕ} (x, d) (y, d′)
@@ -38,19 +31,3 @@ module _ (f : Field) (n : ℕ) (s : List ℕ) (p e : ℕ) (d : List ℕ) (l : Pr
   pub leaf-taken : (a z : ℕ) (d′ : List ℕ) → h ≡ At a z → d′ ≡ noted f n a z 0 d → (At a z, d′) ≡ leafWalk (leafOf l) f n s p e d
   unfolding leafWalk leafMarks
   leaf-taken a z d′ b g = both (sym b ∙ j) (rw (← j, b) g)
-
--- ---- the head of a list
-
-module _ (t : Tag) (o : Bool) (s : List ℕ) (p e : ℕ) (h : Seen) (j : h ≡ headAt (tagByte t) s p e) where
-  pub head-refused : (n q : ℕ) → h ≡ Bad n q → h ≡ listHeadAt (tagByte t) o s p e
-  unfolding listHeadAt
-  head-refused n q b = rw (← j, b)
-
-  module _ (a z : ℕ) (b : h ≡ At a z) (v : Bool) (w : v ≡ o || ltb a z) where
-    pub head-none : v ≡ false → Bad no-item p ≡ listHeadAt (tagByte t) o s p e
-    unfolding listHeadAt pick
-    head-none q = rw (← j, b, ← w, q)
-
-    pub head-some : v ≡ true → At a z ≡ listHeadAt (tagByte t) o s p e
-    unfolding listHeadAt pick
-    head-some q = rw (← j, b, ← w, q)

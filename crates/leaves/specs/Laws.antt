@@ -2,13 +2,12 @@
 use mathlib.Core.Path.{_≡_, refl, sym, ap, _∙_}
 use Prim.Native.Nat.{ℕ, suc, zero, _+_, _-_, _*_, _^_, _≤_, _<_}
 use native.Mathlib.Omega.{arith}
-use mathlib.Core.Bool.{Bool}
 use mathlib.Core.List.{List, [], _∷_}
 use lib.ListN.{length, take, length-append, length-drop}
 use lib.Seq.{slice}
 use mir.Syntax.{w64}
 use mir.Val.{Fits}
-use Rattle.terms.specs.Answer.{Res, good, fault, never-empty, same}
+use Rattle.terms.specs.Answer.{Res, good, fault, never-empty}
 use Rattle.terms.specs.Laws.Answer.{never}
 use Rattle.heads.specs.Head.{forms, Cut, head, tlv, before}
 use Rattle.heads.specs.Laws.Head.{head-back, length-tlv}
@@ -19,15 +18,13 @@ use Rattle.contents.specs.Rules.{octetsRule}
 use Rattle.contents.specs.Leaves.{Leaf, ruleOf, bitString, Known, only}
 use Rattle.contents.specs.Scan.{checkedAt, behindAt, contentAt}
 use Rattle.contents.specs.declared.Checked.{Checked}
-use Rattle.contents.specs.declared.Checked.the-variants.{Fine, Wrong}
 use Rattle.tags.specs.declared.Tag.{Tag}
 use Rattle.tags.specs.Tag.{tagByte}
 use Rattle.layouts.specs.Scan.{judgedAt, leafAt}
-use Rattle.primitives.specs.declared.Content.{Content}
 use Rattle.primitives.specs.declared.Content.the-variants as content
 use Rattle.primitives.specs.declared.Primitive.{Primitive}
 use Rattle.primitives.specs.declared.Primitive.the-variants as primitive
-use Rattle.primitives.specs.Primitive.{leafOf, says}
+use Rattle.primitives.specs.Primitive.{leafOf}
 
 -- ---- a head, then a rule
 
@@ -101,15 +98,3 @@ module _ (s : List ℕ) (p a z : ℕ) (y : Checked) where
   bits-content primitive.Critical n i j h = absurd (j i)
   bits-content primitive.HeaderName n i j h = absurd (j i)
   bits-content primitive.Version n i j h = absurd (j i)
-
-pub content-says : (s : List ℕ) (c : Content) (a z : ℕ) (w : List ℕ) (t : Bool) → w ≡ slice a z s → t ≡ same w (0x01 ∷ []) → t ≡ says c (slice a z s)
-content-says s content.Kind1 a z w t i h = rw (← i) h
-
-module _ (c : Checked) (a z : ℕ) where
-  pub judged-fine : c ≡ Fine → Item a z ≡ judgedAt c a z
-  unfolding judgedAt
-  judged-fine i = rw i
-
-  pub judged-wrong : (n p : ℕ) → c ≡ Wrong n p → Bad n p ≡ judgedAt c a z
-  unfolding judgedAt
-  judged-wrong n p i = rw i

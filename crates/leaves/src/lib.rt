@@ -2,17 +2,15 @@
 use contents::Checked;
 use heads::Seen;
 use integers::Allowed;
-use primitives::Content;
 use primitives::Primitive;
 use primitives::Word;
 use terms::MAY_BE_EMPTY;
 use terms::NEVER_EMPTY;
 ghost use mathlib.Core.Path.{_≡_};
-ghost use lib.Seq.{slice};
 ghost use Rattle.contents.specs.Leaves.{ruleOf, only};
 ghost use Rattle.contents.specs.Scan.{checkedAt, contentAt};
-ghost use Rattle.layouts.specs.Scan.{judgedAt, leafAt};
-ghost use Rattle.primitives.specs.Primitive.{leafOf, knownOf, says};
+ghost use Rattle.layouts.specs.Scan.{leafAt};
+ghost use Rattle.primitives.specs.Primitive.{leafOf, knownOf};
 
 // A value by the rule of its primitive item.
 pub fn rule(s: &[u8], p: Primitive, at: usize, a: usize, z: usize) -> Checked
@@ -47,16 +45,6 @@ fn content(s: &[u8], p: Primitive, at: usize, a: usize, z: usize) -> Checked
     octets::bits(s, at, a, z)
 }
 
-// What a content's rule answers, as the item or its refusal.
-pub fn judged(c: Checked, a: usize, z: usize) -> Seen
-    ensures { λ r. ⌜ r ≡ judgedAt c a z ⌝ }
-{
-    match c {
-        Checked::Fine => Seen::Item { start: a, end: z },
-        Checked::Wrong(number, place) => Seen::Refused(number, place),
-    }
-}
-
 // A primitive item: where its value lies, or the refusal of its head or its content.
 pub fn leaf(s: &[u8], p: Primitive, at: usize, end: usize) -> Seen
     ensures { λ r. ⌜ r ≡ leafAt (leafOf p) (now (s .entry)) at end ⌝ }
@@ -65,7 +53,7 @@ pub fn leaf(s: &[u8], p: Primitive, at: usize, end: usize) -> Seen
     let Seen::Item { start: a, end: z } = h else {
         return h;
     };
-    judged(content(s, p, at, a, z), a + primitives::hidden_of(p), z)
+    answers::judged(content(s, p, at, a, z), a + primitives::hidden_of(p), z)
 }
 
 // A member whose content is known.
@@ -73,14 +61,4 @@ pub fn known(s: &[u8], w: Word, at: usize, end: usize) -> Seen
     ensures { λ r. ⌜ r ≡ leafAt (only (knownOf w)) (now (s .entry)) at end ⌝ }
 {
     leaf(s, primitives::known_as(w), at, end)
-}
-
-// Whether what stands from one position to another is the content that is named.
-pub fn is_content(s: &[u8], c: Content, a: usize, z: usize) -> bool
-    ensures { λ r. ⌜ r ≡ says c (slice a z (now (s .entry))) ⌝ }
-{
-    let w = windows::window(s, a, z);
-    match c {
-        Content::Kind1 => windows::is_same(w, b"\x01"),
-    }
 }

@@ -85,7 +85,7 @@ fn member(s: &[u8], m: Member, at: usize, end: usize) -> Step
                 }
             }
         }
-        Member::Flag(_) => sections::flag(s, at, end),
+        Member::Flag(_) => section_values::flag(s, at, end),
         Member::Choice {
             by: _,
             primitive,
@@ -98,7 +98,7 @@ fn member(s: &[u8], m: Member, at: usize, end: usize) -> Step
             let Seen::Item { start: a, end: z } = h else {
                 return edges::past(h);
             };
-            if leaves::is_content(s, content, a, z) {
+            if answers::is_content(s, content, a, z) {
                 return item(s, first, z, end);
             }
             item(s, second, z, end)

@@ -34,7 +34,7 @@ fn in_sheet(s: &[u8], p: Primitive, at: usize, end: usize) -> Span
     let Seen::Item { start: a, end: z } = h else {
         return sources::content(h, at);
     };
-    sources::content(sections::value(s, p, at, a, z), at)
+    sources::content(section_values::value(s, p, at, a, z), at)
 }
 
 // The value of a primitive item, which ends where the item does.
@@ -94,5 +94,5 @@ pub fn is_content(s: &[u8], from: Side, p: Primitive, c: Content, at: usize, end
     ensures { λ r. ⌜ r ≡ says c (valueAt from (leafOf p) (now (s .entry)) at end) ⌝ }
 {
     let v = value(s, from, p, at, end);
-    leaves::is_content(s, c, v.start, v.end)
+    answers::is_content(s, c, v.start, v.end)
 }

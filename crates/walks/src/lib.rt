@@ -56,7 +56,7 @@ fn item(
             name: item_name,
             each,
         } => {
-            let h = entries::list_head(s, tag, empty, at, end);
+            let h = list_heads::list_head(s, tag, empty, at, end);
             let Seen::Item { start: a, end: z } = h else {
                 places::blame(places, name);
                 return edges::past(h);
@@ -156,7 +156,7 @@ fn member(s: &[u8], m: Member, index: usize, at: usize, end: usize, places: &mut
             let Seen::Item { start: a, end: z } = h else {
                 return edges::past(h);
             };
-            if leaves::is_content(s, content, a, z) {
+            if answers::is_content(s, content, a, z) {
                 return item(s, first, name, index, z, end, places);
             }
             return item(s, second, name, index, z, end, places);

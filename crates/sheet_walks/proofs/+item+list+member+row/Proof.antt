@@ -25,10 +25,10 @@ use Rattle.sheet_walks.proofs.row.Reads as row
 use Rattle.sheet_walks.proofs.row.Kinds as row-kinds
 use Rattle.sheet_walks.proofs.+item+list+member+row.Lts-row as row-lts
 use Rattle.edges.proofs.past.Reads as past-reads
-use Rattle.leaves.proofs.is_content.Reads as is-content-reads
+use Rattle.answers.proofs.is_content.Reads as is-content-reads
 use Rattle.rows.proofs.members_of.Reads as members-of-reads
 use Rattle.counts.proofs.count.Reads as count-reads
-use Rattle.sections.proofs.flag.Reads as flag-reads
+use Rattle.section_values.proofs.flag.Reads as flag-reads
 use Rattle.sections.proofs.leaf.Reads as leaf-reads
 use Rattle.counts.proofs.list_count.Reads as list-count-reads
 use Rattle.structures.proofs.build_of.Reads as build-of-reads

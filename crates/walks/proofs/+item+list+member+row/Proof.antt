@@ -26,7 +26,7 @@ use Rattle.items.proofs.head.Reads as head-reads
 use Rattle.edges.proofs.begins.Reads as begins-reads
 use Rattle.edges.proofs.close.Reads as close-reads
 use Rattle.edges.proofs.past.Reads as past-reads
-use Rattle.leaves.proofs.is_content.Reads as is-content-reads
+use Rattle.answers.proofs.is_content.Reads as is-content-reads
 use Rattle.leaves.proofs.known.Reads as known-reads
 use Rattle.places.proofs.blame.Reads as blame-reads
 use Rattle.places.proofs.note.Reads as note-reads
@@ -34,7 +34,7 @@ use Rattle.structures.proofs.build_of.Reads as build-of-reads
 use Rattle.rows.proofs.members_of.Reads as members-of-reads
 use Rattle.structures.proofs.tag_of.Reads as tag-of-reads
 use Rattle.entries.proofs.leaf.Reads as leaf-reads
-use Rattle.entries.proofs.list_head.Reads as list-head-reads
+use Rattle.list_heads.proofs.list_head.Reads as list-head-reads
 use Rattle.walks.proofs.+item+list+member+row.{statement}
 use Rattle.walks.proofs.+item+list+member+row.Tie.{close}
 

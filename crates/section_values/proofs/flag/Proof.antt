@@ -1,8 +1,8 @@
--- `sections::flag`: the section, then one byte 0 or 1.
-use Rattle.sections.specs.Laws.{flag-cut, flag-zero, flag-one, flag-bad}
+-- `section_values::flag`: the section, then one byte 0 or 1.
+use Rattle.section_values.specs.Laws.{flag-cut, flag-zero, flag-one, flag-bad}
 use borrow.Author.Needs.{needs}
-use Rattle.sections.proofs.flag.Statement.{statement}
-use Rattle.sections.proofs.flag.Tie as tie
+use Rattle.section_values.proofs.flag.Statement.{statement}
+use Rattle.section_values.proofs.flag.Tie as tie
 
 section-requires : tie.Need-section-requires
 section-requires c κs = search needs

@@ -1,8 +1,8 @@
--- `leaves::judged`: fine is the item, wrong its refusal.
-use Rattle.leaves.specs.Laws.{judged-fine, judged-wrong}
+-- `answers::judged`: fine is the item, wrong its refusal.
+use Rattle.answers.specs.Laws.{judged-fine, judged-wrong}
 use borrow.Author.Needs.{needs}
-use Rattle.leaves.proofs.judged.Statement.{statement}
-use Rattle.leaves.proofs.judged.Tie as tie
+use Rattle.answers.proofs.judged.Statement.{statement}
+use Rattle.answers.proofs.judged.Tie as tie
 
 enum-told : tie.Need-enum-told
 enum-told c = search needs

@@ -1,9 +1,9 @@
--- `entries::list_head`: the head, then whether an item stands in it.
+-- `list_heads::list_head`: the head, then whether an item stands in it.
 use borrow.Author.Tests.{not-true, not-false}
-use Rattle.entries.specs.Laws.{head-refused, head-none, head-some}
+use Rattle.list_heads.specs.Laws.{head-refused, head-none, head-some}
 use borrow.Author.Needs.{needs}
-use Rattle.entries.proofs.list_head.Statement.{statement}
-use Rattle.entries.proofs.list_head.Tie as tie
+use Rattle.list_heads.proofs.list_head.Statement.{statement}
+use Rattle.list_heads.proofs.list_head.Tie as tie
 
 head-requires : tie.Need-head-requires
 head-requires c κs = search needs

@@ -1,8 +1,8 @@
--- `leaves::is_content`: the window is compared with the content's bytes.
-use Rattle.leaves.specs.Laws.{content-says}
+-- `answers::is_content`: the window is compared with the content's bytes.
+use Rattle.answers.specs.Laws.{content-says}
 use borrow.Author.Needs.{needs}
-use Rattle.leaves.proofs.is_content.Statement.{statement}
-use Rattle.leaves.proofs.is_content.Tie as tie
+use Rattle.answers.proofs.is_content.Statement.{statement}
+use Rattle.answers.proofs.is_content.Tie as tie
 
 window-requires : tie.Need-window-requires
 window-requires c κs = search needs

@@ -1,8 +1,8 @@
--- `sections::value`: bytes as they stand, an integer from the first byte that is needed on.
-use Rattle.sections.specs.Laws.{value-bytes, value-cut, fits-value, value-number}
+-- `section_values::value`: bytes as they stand, an integer from the first byte that is needed on.
+use Rattle.section_values.specs.Laws.{value-bytes, value-cut, fits-value, value-number}
 use borrow.Author.Needs.{needs}
-use Rattle.sections.proofs.value.Statement.{statement}
-use Rattle.sections.proofs.value.Tie as tie
+use Rattle.section_values.proofs.value.Statement.{statement}
+use Rattle.section_values.proofs.value.Tie as tie
 
 is-number-requires : tie.Need-is-number-requires
 is-number-requires c κs = search needs
