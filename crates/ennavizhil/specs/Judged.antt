@@ -3,7 +3,8 @@ use Prim.Native.Nat.{ℕ}
 use mathlib.Core.List.{List}
 use Rattle.terms.specs.Answer.{pick, Told, told-none}
 use Rattle.verdicts.specs.Verdict.{Rulebook, verdict, toldVerdict}
-use Rattle.given_findings.specs.Given.{areFindings, findingsIn}
+use Rattle.finding_rows.specs.Row.{areFindings}
+use Rattle.given_findings.specs.Given.{findingsIn}
 
 -- "253 not findings"
 abbrev pub not-findings : ℕ

@@ -10,7 +10,8 @@ use Rattle.runs.specs.declared.Moved.{Moved}
 use Rattle.verdicts.specs.declared.Findings.{Findings}
 use Rattle.verdicts.specs.declared.Verdict.{Verdict}
 use Rattle.verdicts.specs.Verdict.{Rulebook, verdict, toldVerdict}
-use Rattle.given_findings.specs.Given.{areFindings, findingsIn}
+use Rattle.finding_rows.specs.Row.{areFindings}
+use Rattle.given_findings.specs.Given.{findingsIn}
 use Rattle.packs.specs.Packed.{packedNumber, packedFirst, packedSecond, packedStep, recordsTold, valueTold}
 use Rattle.ennavizhil.specs.Judged.{askedVerdict}
 

@@ -185,7 +185,7 @@ pub extern "C" fn ennavizhil_seal_verdict(
 ) -> u64
     ensures { λ r. ⌜ r ≡ packedFirst (askedVerdict sealRules (now («record» .entry)) (now (original .entry)) (now (signer .entry)) (now (findings .entry))) ⌝ }
 {
-    if !given_findings::are_findings(findings) {
+    if !finding_rows::are_findings(findings) {
         return NOT_FINDINGS;
     }
     packs::verdict(judges::seal(record, given_findings::findings(findings), original, signer))
@@ -201,7 +201,7 @@ pub extern "C" fn ennavizhil_signature_verdict(
 ) -> u64
     ensures { λ r. ⌜ r ≡ packedFirst (askedVerdict signatureRules (now («record» .entry)) (now (original .entry)) (now (signer .entry)) (now (findings .entry))) ⌝ }
 {
-    if !given_findings::are_findings(findings) {
+    if !finding_rows::are_findings(findings) {
         return NOT_FINDINGS;
     }
     packs::verdict(judges::signature(record, given_findings::findings(findings), original, signer))

@@ -1,37 +1,16 @@
--- The findings as 19 numbers in a row (03, 42). Assumes nothing.
+-- What the numbers of a row say as findings (03, 42). Assumes nothing.
 use Prim.Native.Nat.{ℕ, _+_}
-use mathlib.Core.Bool.{Bool, _&&_}
-use mathlib.Core.List.{List, [], _∷_}
-use lib.ListN.{length, getD}
-use lib.Dec.{eqb, ltb}
-use Rattle.terms.specs.Answer.{pick, every}
+use mathlib.Core.Bool.{Bool}
+use mathlib.Core.List.{List}
+use lib.Dec.{eqb}
+use Rattle.terms.specs.Answer.{pick}
 use Rattle.verdicts.specs.declared.Revocation.{Revocation}
 use Rattle.verdicts.specs.declared.Revocation.the-variants.{Never, At}
 use Rattle.verdicts.specs.declared.CertificateFacts.{CertificateFacts}
 use Rattle.verdicts.specs.declared.Stamping.{Stamping}
 use Rattle.verdicts.specs.declared.Stamping.the-variants.{Unchecked, Bad, Good}
 use Rattle.verdicts.specs.declared.Findings.{Findings}
-
-abbrev pub numbers-count : ℕ
-numbers-count = 19
-
-abbrev pub at : List ℕ → ℕ → ℕ
-at xs k = getD xs k 0
-
--- ---- which rows are findings
-
--- a flag is 0 or 1
-abbrev pub isFlag : List ℕ → ℕ → Bool
-isFlag xs k = ltb (at xs k) 2
-
-unfoldable pub areFlags : List ℕ → ℕ → ℕ → ℕ → Bool
-areFlags xs a b c = isFlag xs a && (isFlag xs b && isFlag xs c)
-
--- "a findings slice of another length, a flag or state outside its values" is not findings
-unfoldable pub areFindings : List ℕ → Bool
-areFindings xs = eqb (length xs) numbers-count && (areFlags xs 0 1 15 && (areFlags xs 3 4 7 && (areFlags xs 9 10 13 && ltb (at xs 17) 3)))
-
--- ---- what they say
+use Rattle.finding_rows.specs.Row.{at}
 
 unfoldable pub says : List ℕ → ℕ → Bool
 says xs k = eqb (at xs k) 1

@@ -1,9 +1,9 @@
--- `given_findings::are_findings`: the length, the flags, then the stamp.
-use Rattle.given_findings.specs.Laws.{other-length, other-flags, other-makers, other-signers, by-stamp}
+-- `finding_rows::are_findings`: the length, the flags, then the stamp.
+use Rattle.finding_rows.specs.Laws.{other-length, other-flags, other-makers, other-signers, by-stamp}
 use borrow.Author.Tests.{not-true, not-false}
 use borrow.Author.Needs.{needs}
-use Rattle.given_findings.proofs.are_findings.Statement.{statement}
-use Rattle.given_findings.proofs.are_findings.Tie as tie
+use Rattle.finding_rows.proofs.are_findings.Statement.{statement}
+use Rattle.finding_rows.proofs.are_findings.Tie as tie
 
 returns : tie.Need-returns
 returns c = search (needs, other-length)

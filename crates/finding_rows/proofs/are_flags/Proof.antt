@@ -1,9 +1,9 @@
--- `given_findings::are_flags`: one after another.
-use Rattle.given_findings.specs.Laws.{flags-not-first, flags-not-second, flags-third}
+-- `finding_rows::are_flags`: one after another.
+use Rattle.finding_rows.specs.Laws.{flags-not-first, flags-not-second, flags-third}
 use borrow.Author.Tests.{not-true, not-false}
 use borrow.Author.Needs.{needs}
-use Rattle.given_findings.proofs.are_flags.Statement.{statement}
-use Rattle.given_findings.proofs.are_flags.Tie as tie
+use Rattle.finding_rows.proofs.are_flags.Statement.{statement}
+use Rattle.finding_rows.proofs.are_flags.Tie as tie
 
 is-flag-requires : tie.Need-is-flag-requires
 is-flag-requires c κs = search needs

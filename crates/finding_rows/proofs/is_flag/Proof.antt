@@ -1,8 +1,8 @@
--- `given_findings::is_flag`: by the number.
-use Rattle.given_findings.specs.Laws.{flag-by}
+-- `finding_rows::is_flag`: by the number.
+use Rattle.finding_rows.specs.Laws.{flag-by}
 use borrow.Author.Needs.{needs}
-use Rattle.given_findings.proofs.is_flag.Statement.{statement}
-use Rattle.given_findings.proofs.is_flag.Tie as tie
+use Rattle.finding_rows.proofs.is_flag.Statement.{statement}
+use Rattle.finding_rows.proofs.is_flag.Tie as tie
 
 number-at-requires : tie.Need-number-at-requires
 number-at-requires c κs = search needs

@@ -1,8 +1,8 @@
--- `given_findings::number_at`: past the end of a row stands nothing.
-use Rattle.given_findings.specs.Laws.{at-past}
+-- `finding_rows::number_at`: past the end of a row stands nothing.
+use Rattle.finding_rows.specs.Laws.{at-past}
 use borrow.Author.Needs.{needs}
-use Rattle.given_findings.proofs.number_at.Statement.{statement}
-use Rattle.given_findings.proofs.number_at.Tie as tie
+use Rattle.finding_rows.proofs.number_at.Statement.{statement}
+use Rattle.finding_rows.proofs.number_at.Tie as tie
 
 mul-result : tie.Need-mul-result
 mul-result c = search needs
