@@ -10,7 +10,7 @@ ghost use Rattle.cuts.specs.Handed.{partUnder, spanOf, within};
 pub fn under(places: &[usize], f: Field) -> Part
     ensures { λ r. ⌜ r ≡ partUnder f (now (places .entry)) ⌝ }
 {
-    let p = places::under(places, f);
+    let p = lookups::under(places, f);
     if p.there {
         return Part::There {
             start: p.start,

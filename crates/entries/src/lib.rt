@@ -20,7 +20,7 @@ pub fn leaf(
 {
     let h = leaves::leaf(s, primitive, at, end);
     let Seen::Item { start: a, end: z } = h else {
-        places::blame(places, name);
+        blames::blame(places, name);
         return h;
     };
     places::note(places, name, index, a, z, 0);

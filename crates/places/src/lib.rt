@@ -5,27 +5,18 @@ use terms::Field;
 use terms::NAMES;
 ghost use mathlib.Core.Path.{_≡_};
 ghost use Prim.Native.Nat.{_+_, _-_, _<_};
-ghost use mathlib.Core.Bool.{not, _&&_};
-ghost use mathlib.Core.List.{[], _∷_};
-ghost use lib.ListN.{getD, drop, length as size};
+ghost use mathlib.Core.Bool.{_&&_};
+ghost use lib.ListN.{length as size};
 ghost use lib.Dec.{eqb};
-ghost use Rattle.layouts.specs.Places.{table-size, wanted, slot, under as numbersUnder};
+ghost use Rattle.layouts.specs.Places.{table-size, wanted};
 ghost use Rattle.layouts.specs.Laws.Places.{blank as blankTable};
-ghost use Rattle.layouts.specs.Marks.{free, filled, noted, blamed};
+ghost use Rattle.layouts.specs.Marks.{free, filled, noted};
 
 // Where the index that is wanted stands, behind the numbers under the names.
 pub const WANTED_AT: usize = NUMBERS_EACH * NAMES;
 
 // The numbers of a table.
 pub const TABLE_SIZE: usize = WANTED_AT + 1;
-
-// What stands under a name.
-pub struct Place {
-    pub there: bool,
-    pub start: usize,
-    pub length: usize,
-    pub items: usize,
-}
 
 // How far it is from a start to an end; none if the end is before it.
 fn distance(start: usize, end: usize) -> usize
@@ -77,7 +68,7 @@ fn takes(places: &[usize], n: usize, index: usize) -> bool
     if !is_free(places, n) {
         return false;
     }
-    index == number_at(places, WANTED_AT)
+    index == lookups::number_at(places, WANTED_AT)
 }
 
 // Notes a field under its name, once, if its index is wanted and the table has room for it.
@@ -89,41 +80,4 @@ pub fn note(places: &mut [usize], f: Field, index: usize, start: usize, end: usi
         return;
     }
     fill(places, n, start, distance(start, end), items);
-}
-
-// Notes the name of a field that is refused, once, where the table has a number more than it needs.
-pub fn blame(places: &mut [usize], f: Field)
-    ensures { λ _. ⌜ now (places .exit) ≡ blamed f (now (places .entry)) ⌝ }
-{
-    if places.len() <= TABLE_SIZE {
-        return;
-    }
-    if places[TABLE_SIZE] != 0 {
-        return;
-    }
-    places[TABLE_SIZE] = slots::number_of(f) + 1;
-}
-
-// A number of a table; past its end they are zeros.
-fn number_at(places: &[usize], n: usize) -> usize
-    ensures { λ r. ⌜ r ≡ getD (now (places .entry)) n 0 ⌝ }
-{
-    if n < places.len() {
-        return places[n];
-    }
-    0
-}
-
-// What stands under a name.
-pub fn under(places: &[usize], f: Field) -> Place
-    ensures { λ r. ⌜ r .there ≡ not (eqb (getD (now (places .entry)) (slot f) 0) 0) ⌝ }
-    ensures { λ r. ⌜ r .start ∷ r .length ∷ r .items ∷ [] ≡ drop 1 (numbersUnder f (now (places .entry))) ⌝ }
-{
-    let n = slots::slot_of(f);
-    Place {
-        there: number_at(places, n) != 0,
-        start: number_at(places, n + 1),
-        length: number_at(places, n + 2),
-        items: number_at(places, n + 3),
-    }
 }

@@ -151,7 +151,7 @@ pub fn shown(places: &[usize], line: usize) -> Line
     let x = row_on(line);
     let name = x.0;
     let shows = x.2;
-    let place = places::under(places, name);
+    let place = lookups::under(places, name);
     Line {
         name,
         depth: x.1,

@@ -9,7 +9,7 @@ ghost use Rattle.tallies.specs.Tally.{isUnder, criticalUnder, countUnder
 fn is_under(places: &[usize], f: Field) -> bool
     ensures { λ r. ⌜ r ≡ isUnder f (now (places .entry)) ⌝ }
 {
-    let p = places::under(places, f);
+    let p = lookups::under(places, f);
     p.there
 }
 
@@ -27,7 +27,7 @@ pub fn critical_under(places: &[usize], item: Field, flag: Field) -> Critical
 pub fn count_under(places: &[usize], f: Field) -> Items
     ensures { λ r. ⌜ r ≡ countUnder f (now (places .entry)) ⌝ }
 {
-    let p = places::under(places, f);
+    let p = lookups::under(places, f);
     if p.there {
         return Items::Count(p.items);
     }

@@ -36,14 +36,14 @@ fn item(
         Build::Node(t, members) => {
             let h = items::head(s, t, at, end);
             let Seen::Item { start: a, end: z } = h else {
-                places::blame(places, name);
+                blames::blame(places, name);
                 return edges::past(h);
             };
             places::note(places, name, index, at, z, 0);
             let r = row(s, members, index, a, z, places);
             match r {
                 Step::Refused(number, place) => {
-                    places::blame(places, name);
+                    blames::blame(places, name);
                     return Step::Refused(number, place);
                 }
                 Step::Next(q) => return Step::Next(q),
@@ -58,13 +58,13 @@ fn item(
         } => {
             let h = list_heads::list_head(s, tag, empty, at, end);
             let Seen::Item { start: a, end: z } = h else {
-                places::blame(places, name);
+                blames::blame(places, name);
                 return edges::past(h);
             };
             let c = list(s, each, most, item_name, a, z, places);
             match c {
                 Tally::Refused(number, place) => {
-                    places::blame(places, name);
+                    blames::blame(places, name);
                     return Step::Refused(number, place);
                 }
                 Tally::Items(n) => {
@@ -76,7 +76,7 @@ fn item(
         Build::Wrap(t, y) => {
             let h = items::head(s, t, at, end);
             let Seen::Item { start: a, end: z } = h else {
-                places::blame(places, name);
+                blames::blame(places, name);
                 return edges::past(h);
             };
             let r = item(s, y, name, index, a, z, places);
@@ -86,7 +86,7 @@ fn item(
             let c = edges::close(q, z);
             match c {
                 Step::Refused(number, place) => {
-                    places::blame(places, name);
+                    blames::blame(places, name);
                     return Step::Refused(number, place);
                 }
                 Step::Next(n) => return Step::Next(n),

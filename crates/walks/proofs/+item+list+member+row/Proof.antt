@@ -28,7 +28,7 @@ use Rattle.edges.proofs.close.Reads as close-reads
 use Rattle.edges.proofs.past.Reads as past-reads
 use Rattle.answers.proofs.is_content.Reads as is-content-reads
 use Rattle.leaves.proofs.known.Reads as known-reads
-use Rattle.places.proofs.blame.Reads as blame-reads
+use Rattle.blames.proofs.blame.Reads as blame-reads
 use Rattle.places.proofs.note.Reads as note-reads
 use Rattle.structures.proofs.build_of.Reads as build-of-reads
 use Rattle.rows.proofs.members_of.Reads as members-of-reads

@@ -1,8 +1,8 @@
--- `places::under`: the four numbers from the name's slot on.
+-- `lookups::under`: the four numbers from the name's slot on.
 use borrow.Author.Needs.{needs}
-use Rattle.places.specs.Laws.{under-there, under-numbers}
-use Rattle.places.proofs.under.Statement.{statement}
-use Rattle.places.proofs.under.Tie as tie
+use Rattle.lookups.specs.Laws.{under-there, under-numbers}
+use Rattle.lookups.proofs.under.Statement.{statement}
+use Rattle.lookups.proofs.under.Tie as tie
 
 slot-of-requires : tie.Need-slot-of-requires
 slot-of-requires c κs = search needs

@@ -1,8 +1,8 @@
--- `places::blame`: a table of its own size, and one in which a name is noted, stay as they are.
+-- `blames::blame`: a table of its own size, and one in which a name is noted, stay as they are.
 use borrow.Author.Needs.{needs}
-use Rattle.places.specs.Laws.{blamed-short, blamed-held, blamed-first}
-use Rattle.places.proofs.blame.Statement.{statement}
-use Rattle.places.proofs.blame.Tie as tie
+use Rattle.blames.specs.Laws.{blamed-short, blamed-held, blamed-first}
+use Rattle.blames.proofs.blame.Statement.{statement}
+use Rattle.blames.proofs.blame.Tie as tie
 
 returns : tie.Need-returns
 returns c = search (needs, blamed-short)

@@ -1,8 +1,8 @@
--- `places::number_at`: past the end of a table stands nothing.
-use Rattle.places.specs.Laws.{getD-past}
+-- `lookups::number_at`: past the end of a table stands nothing.
+use Rattle.lookups.specs.Laws.{getD-past}
 use borrow.Author.Needs.{needs}
-use Rattle.places.proofs.number_at.Statement.{statement}
-use Rattle.places.proofs.number_at.Tie as tie
+use Rattle.lookups.proofs.number_at.Statement.{statement}
+use Rattle.lookups.proofs.number_at.Tie as tie
 
 mul-result : tie.Need-mul-result
 mul-result c = search needs
