@@ -1,8 +1,8 @@
--- `screens::row_on`: each line has its row; past them is none.
-use Rattle.screens.specs.Laws.{on-line, Besides, past-last}
+-- `screen_rows::row_on`: each line has its row; past them is none.
+use Rattle.screen_rows.specs.Laws.{on-line, Besides, past-last}
 use borrow.Author.Needs.{needs}
-use Rattle.screens.proofs.row_on.Statement.{statement}
-use Rattle.screens.proofs.row_on.Tie as tie
+use Rattle.screen_rows.proofs.row_on.Statement.{statement}
+use Rattle.screen_rows.proofs.row_on.Tie as tie
 
 returns : tie.Need-returns
 returns c = search (needs, on-line)
