@@ -1,8 +1,8 @@
--- `texts::stands`: past the end stands nothing, and a byte lies in its range by both ends.
-use Rattle.texts.specs.Laws.Text.{stands-end, stands-low, stands-high}
+-- `utf8::stands`: past the end stands nothing, and a byte lies in its range by both ends.
+use Rattle.utf8.specs.Laws.{stands-end, stands-low, stands-high}
 use borrow.Author.Needs.{needs}
-use Rattle.texts.proofs.stands.Statement.{statement}
-use Rattle.texts.proofs.stands.Tie as tie
+use Rattle.utf8.proofs.stands.Statement.{statement}
+use Rattle.utf8.proofs.stands.Tie as tie
 
 returns : tie.Need-returns
 returns c = search (needs, stands-end)

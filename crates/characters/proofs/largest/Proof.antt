@@ -1,13 +1,13 @@
--- `texts::largest`: the loop keeps that the largest of all is the larger of what was passed and of what is left.
+-- `characters::largest`: the loop keeps that the largest of all is the larger of what was passed and of what is left.
 use mathlib.Core.Path.{_≡_}
 use Prim.Native.Nat.{_-_, max}
 use native.Mathlib.Omega.{arith}
 use lib.ListN.{length, drop}
-use Rattle.texts.specs.Text.{largestOf}
-use Rattle.texts.specs.Laws.Text.{largest-on, largest-end}
+use Rattle.characters.specs.Text.{largestOf}
+use Rattle.characters.specs.Laws.{largest-on, largest-end}
 use borrow.Author.Needs.{needs}
-use Rattle.texts.proofs.largest.Statement.{statement}
-use Rattle.texts.proofs.largest.Tie as tie
+use Rattle.characters.proofs.largest.Statement.{statement}
+use Rattle.characters.proofs.largest.Tie as tie
 
 abbrev Inv-loop : tie.InvT-loop
 Inv-loop w most₀ i₀ most i = largestOf w ≡ max most (largestOf (drop i w))

@@ -1,13 +1,13 @@
--- `texts::is_printable`: the loop keeps that what is left is text just where all is.
+-- `characters::is_printable`: the loop keeps that what is left is text just where all is.
 use mathlib.Core.Path.{_≡_, refl}
 use Prim.Native.Nat.{_-_}
 use lib.ListN.{length, drop}
 use borrow.Author.Tests.{not-true, not-false}
 use Rattle.contents.specs.Text.{isText, printable}
-use Rattle.texts.specs.Laws.Text.{printable-on, printable-bad, text-end}
+use Rattle.characters.specs.Laws.{printable-on, printable-bad, text-end}
 use borrow.Author.Needs.{needs}
-use Rattle.texts.proofs.is_printable.Statement.{statement}
-use Rattle.texts.proofs.is_printable.Tie as tie
+use Rattle.characters.proofs.is_printable.Statement.{statement}
+use Rattle.characters.proofs.is_printable.Tie as tie
 
 abbrev Inv-loop : tie.InvT-loop
 Inv-loop w i₀ i = isText printable w ≡ isText printable (drop i w)

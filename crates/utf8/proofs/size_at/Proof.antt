@@ -1,9 +1,9 @@
--- `texts::size_at`: each arm names the row of the first byte; between the arms there is no row.
+-- `utf8::size_at`: each arm names the row of the first byte; between the arms there is no row.
 use Rattle.contents.specs.Text.{utf8}
-use Rattle.texts.specs.Laws.Text.{size-row, size-one, size-none}
+use Rattle.utf8.specs.Laws.{size-row, size-one, size-none}
 use borrow.Author.Needs.{needs}
-use Rattle.texts.proofs.size_at.Statement.{statement}
-use Rattle.texts.proofs.size_at.Tie as tie
+use Rattle.utf8.proofs.size_at.Statement.{statement}
+use Rattle.utf8.proofs.size_at.Tie as tie
 
 followed-requires : tie.Need-followed-requires
 followed-requires c κs = search needs

@@ -1,13 +1,14 @@
--- `texts::is_utf8`: the loop keeps that what is left is text just where all is.
+-- `utf8::is_utf8`: the loop keeps that what is left is text just where all is.
 use mathlib.Core.Path.{_≡_, refl}
 use Prim.Native.Nat.{_-_, _≤_}
 use native.Mathlib.Omega.{arith}
 use lib.ListN.{length, drop}
 use Rattle.contents.specs.Text.{isText, utf8}
-use Rattle.texts.specs.Laws.Text.{ascii, size-fits, size-on, size-bad, text-end}
+use Rattle.characters.specs.Laws.{text-end}
+use Rattle.utf8.specs.Laws.{ascii, size-fits, size-on, size-bad}
 use borrow.Author.Needs.{needs}
-use Rattle.texts.proofs.is_utf8.Statement.{statement}
-use Rattle.texts.proofs.is_utf8.Tie as tie
+use Rattle.utf8.proofs.is_utf8.Statement.{statement}
+use Rattle.utf8.proofs.is_utf8.Tie as tie
 
 abbrev Inv-loop : tie.InvT-loop
 Inv-loop w i₀ i = (i ≤ length w) × (isText utf8 w ≡ isText utf8 (drop i w))

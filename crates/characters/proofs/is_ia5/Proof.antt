@@ -1,8 +1,8 @@
--- `texts::is_ia5`: the largest byte is below 80 just where all are.
-use Rattle.texts.specs.Laws.Text.{below-80}
+-- `characters::is_ia5`: the largest byte is below 80 just where all are.
+use Rattle.characters.specs.Laws.{below-80}
 use borrow.Author.Needs.{needs}
-use Rattle.texts.proofs.is_ia5.Statement.{statement}
-use Rattle.texts.proofs.is_ia5.Tie as tie
+use Rattle.characters.proofs.is_ia5.Statement.{statement}
+use Rattle.characters.proofs.is_ia5.Tie as tie
 
 largest-requires : tie.Need-largest-requires
 largest-requires c κs = search needs

@@ -1,10 +1,10 @@
--- `texts::followed`: the loop keeps that the second byte and the tails that were passed stand there, and what the others decide.
+-- `utf8::followed`: the loop keeps that the second byte and the tails that were passed stand there, and what the others decide.
 use Prim.Native.Nat.{_-_}
 use borrow.Author.Tests.{not-true, not-false}
-use Rattle.texts.specs.Laws.Text.{no-size, Tailed, tailed-first, tailed-next, tailed-bad, tailed-all}
+use Rattle.utf8.specs.Laws.{no-size, Tailed, tailed-first, tailed-next, tailed-bad, tailed-all}
 use borrow.Author.Needs.{needs}
-use Rattle.texts.proofs.followed.Statement.{statement}
-use Rattle.texts.proofs.followed.Tie as tie
+use Rattle.utf8.proofs.followed.Statement.{statement}
+use Rattle.utf8.proofs.followed.Tie as tie
 
 abbrev Inv-loop : tie.InvT-loop
 Inv-loop w i low high tails k₀ k = Tailed (low, high) tails w i k

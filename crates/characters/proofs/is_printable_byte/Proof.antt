@@ -1,9 +1,9 @@
--- `texts::is_printable_byte`: each arm that takes a byte names the row of the alphabet that has it; between the arms there is no row.
+-- `characters::is_printable_byte`: each arm that takes a byte names the row of the alphabet that has it; between the arms there is no row.
 use Rattle.contents.specs.Text.{printable}
-use Rattle.texts.specs.Laws.Text.{starts-row, starts-none}
+use Rattle.characters.specs.Laws.{starts-row, starts-none}
 use borrow.Author.Needs.{needs}
-use Rattle.texts.proofs.is_printable_byte.Statement.{statement}
-use Rattle.texts.proofs.is_printable_byte.Tie as tie
+use Rattle.characters.proofs.is_printable_byte.Statement.{statement}
+use Rattle.characters.proofs.is_printable_byte.Tie as tie
 
 returns : tie.Need-returns
 returns c = starts-row printable 3 _ (search needs) (search needs)
