@@ -26,7 +26,7 @@ pub fn rule(s: &[u8], p: Primitive, at: usize, a: usize, z: usize) -> Checked
         Primitive::AnyIa5 => texts::ia5(s, at, a, z, MAY_BE_EMPTY),
         Primitive::AnyPrintable => texts::printable(s, at, a, z, MAY_BE_EMPTY),
         Primitive::AnyUtf8 => texts::utf8(s, at, a, z, MAY_BE_EMPTY),
-        Primitive::Identifier => octets::identifier(s, at, a, z),
+        Primitive::Identifier => identifiers::identifier(s, at, a, z),
         Primitive::Time => times::time(s, at, a, z),
         Primitive::Integer => integers::integer(s, at, a, z, Allowed::Any),
         Primitive::ListKind => integers::integer(s, at, a, z, Allowed::Kind),

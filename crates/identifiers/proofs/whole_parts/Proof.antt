@@ -1,13 +1,13 @@
--- `octets::whole_parts`: the loop keeps that the bytes from `i` on are whole parts just where all are, `begins` being whether one begins at `i`.
+-- `identifiers::whole_parts`: the loop keeps that the bytes from `i` on are whole parts just where all are, `begins` being whether one begins at `i`.
 use mathlib.Core.Path.{_≡_, refl}
 use mathlib.Core.Bool.{true}
 use Prim.Native.Nat.{_-_}
 use lib.ListN.{length, drop}
 use Rattle.contents.specs.Text.{partsFrom}
-use Rattle.octets.specs.Laws.{parts-end, parts-bad, parts-on}
+use Rattle.identifiers.specs.Laws.{parts-end, parts-bad, parts-on}
 use borrow.Author.Needs.{needs}
-use Rattle.octets.proofs.whole_parts.Statement.{statement}
-use Rattle.octets.proofs.whole_parts.Tie as tie
+use Rattle.identifiers.proofs.whole_parts.Statement.{statement}
+use Rattle.identifiers.proofs.whole_parts.Tie as tie
 
 abbrev Inv-loop : tie.InvT-loop
 Inv-loop w begins₀ i₀ begins i = partsFrom true w ≡ partsFrom begins (drop i w)

@@ -1,7 +1,7 @@
--- `octets::begins_with_80`: where no part begins the answer is no, else it is the comparison.
+-- `identifiers::begins_with_80`: where no part begins the answer is no, else it is the comparison.
 use borrow.Author.Needs.{needs}
-use Rattle.octets.proofs.begins_with_80.Statement.{statement}
-use Rattle.octets.proofs.begins_with_80.Tie as tie
+use Rattle.identifiers.proofs.begins_with_80.Statement.{statement}
+use Rattle.identifiers.proofs.begins_with_80.Tie as tie
 
 returns : tie.Need-returns
 returns c = rw (c .if1 .taken)

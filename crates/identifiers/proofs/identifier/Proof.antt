@@ -1,8 +1,8 @@
--- `octets::identifier`: the rule asks only whether the content is an identifier.
-use Rattle.octets.specs.Laws.{identifier-rule}
+-- `identifiers::identifier`: the rule asks only whether the content is an identifier.
+use Rattle.identifiers.specs.Laws.{identifier-rule}
 use borrow.Author.Needs.{needs}
-use Rattle.octets.proofs.identifier.Statement.{statement}
-use Rattle.octets.proofs.identifier.Tie as tie
+use Rattle.identifiers.proofs.identifier.Statement.{statement}
+use Rattle.identifiers.proofs.identifier.Tie as tie
 
 window-requires : tie.Need-window-requires
 window-requires c κs = search needs
