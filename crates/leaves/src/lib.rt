@@ -41,7 +41,7 @@ pub fn rule(s: &[u8], p: Primitive, at: usize, a: usize, z: usize) -> Checked
 fn content(s: &[u8], p: Primitive, at: usize, a: usize, z: usize) -> Checked
     ensures { λ r. ⌜ r ≡ contentAt (leafOf p .front) (ruleOf (leafOf p .holds)) (now (s .entry)) at a z ⌝ }
 {
-    if primitives::hidden_of(p) == 0 {
+    if hiding::hidden_of(p) == 0 {
         return rule(s, p, at, a, z);
     }
     octets::bits(s, at, a, z)
@@ -65,7 +65,7 @@ pub fn leaf(s: &[u8], p: Primitive, at: usize, end: usize) -> Seen
     let Seen::Item { start: a, end: z } = h else {
         return h;
     };
-    judged(content(s, p, at, a, z), a + primitives::hidden_of(p), z)
+    judged(content(s, p, at, a, z), a + hiding::hidden_of(p), z)
 }
 
 // A member whose content is known.
