@@ -24,7 +24,7 @@ pub fn rule(s: &[u8], p: Primitive, at: usize, a: usize, z: usize) -> Checked
         Primitive::AnyIa5 => texts::ia5(s, at, a, z, MAY_BE_EMPTY),
         Primitive::AnyPrintable => texts::printable(s, at, a, z, MAY_BE_EMPTY),
         Primitive::AnyUtf8 => texts::utf8(s, at, a, z, MAY_BE_EMPTY),
-        Primitive::Identifier => octets::identifier(s, at, a, z),
+        Primitive::Identifier => identifiers::identifier(s, at, a, z),
         Primitive::Time => times::time(s, at, a, z),
         Primitive::Integer => integers::integer(s, at, a, z, Allowed::Any),
         Primitive::ListKind => integers::integer(s, at, a, z, Allowed::Kind),
@@ -39,7 +39,7 @@ pub fn rule(s: &[u8], p: Primitive, at: usize, a: usize, z: usize) -> Checked
 fn content(s: &[u8], p: Primitive, at: usize, a: usize, z: usize) -> Checked
     ensures { λ r. ⌜ r ≡ contentAt (leafOf p .front) (ruleOf (leafOf p .holds)) (now (s .entry)) at a z ⌝ }
 {
-    if primitives::hidden_of(p) == 0 {
+    if hiding::hidden_of(p) == 0 {
         return rule(s, p, at, a, z);
     }
     octets::bits(s, at, a, z)
@@ -53,7 +53,7 @@ pub fn leaf(s: &[u8], p: Primitive, at: usize, end: usize) -> Seen
     let Seen::Item { start: a, end: z } = h else {
         return h;
     };
-    answers::judged(content(s, p, at, a, z), a + primitives::hidden_of(p), z)
+    answers::judged(content(s, p, at, a, z), a + hiding::hidden_of(p), z)
 }
 
 // A member whose content is known.

@@ -1,19 +1,17 @@
--- What the rules of octets, bits, identifiers and the BOOLEAN answer of a window, by the tests that the code made. Assumes nothing.
-use mathlib.Core.Path.{_≡_, refl, sym, _∙_}
-use Prim.Native.Nat.{ℕ, suc, _+_, _≤_, _<_}
+-- What the rules of octets, bits and the BOOLEAN answer of a window, by the tests that the code made. Assumes nothing.
+use mathlib.Core.Path.{_≡_, refl, _∙_}
+use Prim.Native.Nat.{ℕ, suc, _+_}
 use native.Mathlib.Omega.{arith}
-use native.Mathlib.Numerals.{add-one}
-use mathlib.Core.Bool.{Bool, true, false, not, _&&_, _||_}
+use mathlib.Core.Bool.{Bool, true, false, _&&_, _||_}
 use mathlib.Core.List.{List, [], _∷_}
-use lib.ListN.{length, getD, take, drop, drop-of-length-le}
-use lib.Seq.{slice, drop-cons, drop-drop}
+use lib.ListN.{length, getD, take, drop}
+use lib.Seq.{slice, drop-drop}
 use lib.Dec.{ltb, eqb}
-use borrow.Author.Tests.{lt-ltb, le-leb, lt-leb}
+use borrow.Author.Tests.{lt-ltb}
 use Rattle.terms.specs.Answer.{pick, never-empty, enough, same}
-use Rattle.terms.specs.Numbers.{bad-identifier, bad-bits, bad-boolean, no-bytes}
+use Rattle.terms.specs.Numbers.{bad-bits, bad-boolean, no-bytes}
 use Rattle.contents.specs.Content.{Check, fine, ask, placeOf}
-use Rattle.contents.specs.Text.{partsFrom, isIdentifier}
-use Rattle.contents.specs.Rules.{octetsRule, yes-byte, booleanRule, identifierRule}
+use Rattle.contents.specs.Rules.{octetsRule, yes-byte, booleanRule}
 use Rattle.contents.specs.Leaves.{bitString}
 use Rattle.contents.specs.Scan.{checked, checkedAt, behindAt}
 use Rattle.contents.specs.declared.Checked.{Checked}
@@ -52,10 +50,6 @@ module _ (s w : List ℕ) (p a z : ℕ) (win : w ≡ slice a z s) (y : Checked) 
   unfolding checkedAt booleanRule
   boolean-rule t g h = rw (← win, ← g) (h a)
 
-  pub identifier-rule : (t : Bool) → t ≡ isIdentifier w → ((k : ℕ) → y ≡ checked (ask t bad-identifier fine) p k) → y ≡ checkedAt identifierRule s p a z
-  unfolding checkedAt identifierRule
-  identifier-rule t g h = rw (← win, ← g) (h a)
-
   pub bits-rule : (length w ≡ 0 → ⊥) → ((k : ℕ) → y ≡ checked (ask (eqb (getD w 0 0) 0x00) bad-bits (ask (ltb 1 (length w)) no-bytes fine)) p k) → y ≡ behindAt (bitString .front) (octetsRule never-empty) s p a z
   unfolding behindAt checkedAt
   bits-rule e h = rw (← drop-drop 1 a (take z s), ← win) (h (a + 1) ∙ bits-by w p (a + 1) e)
@@ -65,34 +59,3 @@ pub bits-none : (s w : List ℕ) (p a z : ℕ) → w ≡ slice a z s → length 
 unfolding behindAt pick same
 bits-none s [] p a z win e = rw (← win)
 bits-none s (b ∷ w) p a z win e = absurd (omega arith)
-
--- ---- an identifier: `g` is whether a part begins at `i`
-
-module _ (w : List ℕ) (i : ℕ) (g : Bool) (is : partsFrom true w ≡ partsFrom g (drop i w)) where
-  pub parts-end : length w ≤ i → g ≡ partsFrom true w
-  unfolding partsFrom
-  parts-end h = sym (is ∙ rw (drop-of-length-le w h))
-
-  parts-byte : i < length w → partsFrom true w ≡ (not (g && eqb (getD w i 0) 0x80) && partsFrom (ltb (getD w i 0) 0x80) (drop (i + 1) w))
-  unfolding partsFrom
-  parts-byte h = is ∙ rw (add-one, drop-cons w i 0)
-
-  pub parts-bad : (t : Bool) → i < length w → t ≡ g && eqb (getD w i 0) 0x80 → t ≡ true → false ≡ partsFrom true w
-  parts-bad t h e f = sym (parts-byte h ∙ rw (← e, f))
-
-  pub parts-on : (t : Bool) → i < length w → t ≡ g && eqb (getD w i 0) 0x80 → t ≡ false → partsFrom true w ≡ partsFrom (ltb (getD w i 0) 0x80) (drop (i + 1) w)
-  parts-on t h e f = parts-byte h ∙ rw (← e, f)
-
--- no byte, more than 64, or whole parts
-module _ (w : List ℕ) where
-  pub identifier-none : length w ≡ 0 → false ≡ isIdentifier w
-  unfolding isIdentifier
-  identifier-none h = rw h
-
-  pub identifier-long : 64 < length w → false ≡ isIdentifier w
-  unfolding isIdentifier
-  identifier-long h = rw (le-leb 1 (length w) (omega arith), lt-leb (length w) 64 h)
-
-  pub identifier-parts : (t : Bool) → (length w ≡ 0 → ⊥) → length w ≤ 64 → t ≡ partsFrom true w → t ≡ isIdentifier w
-  unfolding isIdentifier
-  identifier-parts t h l g = rw (le-leb 1 (length w) (omega arith), le-leb (length w) 64 l) g

@@ -52,10 +52,10 @@ fn padding_of(to: Side, p: Primitive, w: &[u8]) -> Padding
     match to {
         Side::Record => Padding {
             byte: 0,
-            times: primitives::hidden_of(p),
+            times: hiding::hidden_of(p),
         },
         Side::Sheet => {
-            if primitives::is_number(p) {
+            if hiding::is_number(p) {
                 return Padding {
                     byte: sign_of(w),
                     times: missing(w.len()),

@@ -14,7 +14,7 @@ const INTEGER_BYTES: usize = 8;
 pub fn value(s: &[u8], p: Primitive, at: usize, a: usize, z: usize) -> Seen
     ensures { λ r. ⌜ r ≡ valueAt (leafOf p .holds) (now (s .entry)) at a z ⌝ }
 {
-    if !primitives::is_number(p) {
+    if !hiding::is_number(p) {
         return Seen::Item { start: a, end: z };
     }
     let w = windows::window(s, a, z);

@@ -21,7 +21,7 @@ fn in_record(s: &[u8], p: Primitive, at: usize, end: usize) -> Span
         return sources::content(h, at);
     };
     Span {
-        start: a + primitives::hidden_of(p),
+        start: a + hiding::hidden_of(p),
         end: z,
     }
 }

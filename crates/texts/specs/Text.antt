@@ -1,10 +1,6 @@
--- The characters of each alphabet, the largest byte of a content, and the character at its front by its size. Assumes nothing.
-use Prim.Native.Nat.{ℕ, _+_, max}
-use mathlib.Core.Bool.{Bool, true, false, _&&_}
-use mathlib.Core.List.{List, [], _∷_}
-use lib.ListN.{length}
-use Rattle.terms.specs.Answer.{pick}
-use Rattle.contents.specs.Text.{Range, within, Character, starts, follows, ia5, printable, utf8}
+-- The characters of each alphabet. Assumes nothing.
+use mathlib.Core.List.{List}
+use Rattle.contents.specs.Text.{Character, ia5, printable, utf8}
 use Rattle.texts.specs.declared.Alphabet.{Alphabet}
 use Rattle.texts.specs.declared.Alphabet.the-variants.{Ia5, Printable, Utf8}
 
@@ -12,22 +8,3 @@ abbrev pub charactersOf : Alphabet → List Character
 charactersOf Ia5 = ia5
 charactersOf Printable = printable
 charactersOf Utf8 = utf8
-
-unfoldable pub largestOf : List ℕ → ℕ
-largestOf [] = 0
-largestOf (b ∷ c) = max b (largestOf c)
-
--- whether a byte of each range stands at the front, one after another
-unfoldable pub goesOn : List Range → List ℕ → Bool
-goesOn [] c = true
-goesOn (r ∷ rs) [] = false
-goesOn (r ∷ rs) (b ∷ c) = within b r && goesOn rs c
-
--- the size of a character whose first byte must be followed by `rs`, where `c` follows; 0 if it is none
-unfoldable pub sizeWith : List Range → List ℕ → ℕ
-sizeWith rs c = pick (goesOn rs c) (length rs + 1) 0
-
--- the size of the character at the front, 0 if there is none
-unfoldable pub characterSize : List Character → List ℕ → ℕ
-characterSize alphabet [] = 0
-characterSize alphabet (b ∷ c) = pick (starts alphabet b) (sizeWith (follows alphabet b) c) 0

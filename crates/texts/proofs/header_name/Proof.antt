@@ -1,5 +1,5 @@
 -- `texts::header_name`: the rule is that of the string, then the comparison with "ES".
-use Rattle.texts.specs.Laws.Rules.{header-text, header-rule}
+use Rattle.texts.specs.Laws.{header-text, header-rule}
 use borrow.Author.Needs.{needs}
 use Rattle.texts.proofs.header_name.Statement.{statement}
 use Rattle.texts.proofs.header_name.Tie as tie

@@ -1,5 +1,5 @@
 -- `texts::is_text`: each arm names its alphabet, and the callee answers for it.
-use Rattle.texts.specs.Laws.Text.{of-alphabet}
+use Rattle.texts.specs.Laws.{of-alphabet}
 use borrow.Author.Needs.{needs}
 use Rattle.texts.proofs.is_text.Statement.{statement}
 use Rattle.texts.proofs.is_text.Tie as tie

@@ -1,5 +1,5 @@
 -- `texts::string`: the rule asks whether a byte that is needed is there, then whether all are text.
-use Rattle.texts.specs.Laws.Rules.{string-rule}
+use Rattle.texts.specs.Laws.{string-rule}
 use borrow.Author.Needs.{needs}
 use Rattle.texts.proofs.string.Statement.{statement}
 use Rattle.texts.proofs.string.Tie as tie
