@@ -165,5 +165,5 @@ pub fn now_in_period(g: Grounds, f: Findings) -> Check
 pub fn times_are_real(f: Findings) -> Check
     ensures { λ r. ⌜ failed r ≡ not (allReal f) ⌝ }
 {
-    passes_if(findings::is_all_real(f))
+    passes_if(real_findings::is_all_real(f))
 }

@@ -1,9 +1,9 @@
--- `findings::is_all_real`: one after another.
-use Rattle.findings.specs.Laws.{unreal-now, unreal-maker, unreal-signer, unreal-seal, real-stamp}
+-- `real_findings::is_all_real`: one after another.
+use Rattle.real_findings.specs.Laws.{unreal-now, unreal-maker, unreal-signer, unreal-seal, real-stamp}
 use borrow.Author.Tests.{not-true, not-false}
 use borrow.Author.Needs.{needs}
-use Rattle.findings.proofs.is_all_real.Statement.{statement}
-use Rattle.findings.proofs.is_all_real.Tie as tie
+use Rattle.real_findings.proofs.is_all_real.Statement.{statement}
+use Rattle.real_findings.proofs.is_all_real.Tie as tie
 
 is-real-requires : tie.Need-is-real-requires
 is-real-requires c κs = search needs

@@ -1,9 +1,9 @@
--- `findings::is_certificate_real`: the first, the last, then the revocation.
-use Rattle.findings.specs.Laws.{unreal-first, unreal-last, real-rest}
+-- `real_findings::is_certificate_real`: the first, the last, then the revocation.
+use Rattle.real_findings.specs.Laws.{unreal-first, unreal-last, real-rest}
 use borrow.Author.Tests.{not-true, not-false}
 use borrow.Author.Needs.{needs}
-use Rattle.findings.proofs.is_certificate_real.Statement.{statement}
-use Rattle.findings.proofs.is_certificate_real.Tie as tie
+use Rattle.real_findings.proofs.is_certificate_real.Statement.{statement}
+use Rattle.real_findings.proofs.is_certificate_real.Tie as tie
 
 is-real-requires : tie.Need-is-real-requires
 is-real-requires c κs = search needs
