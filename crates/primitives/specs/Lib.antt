@@ -1,1 +1,2 @@
 pub mod Primitive
+pub mod Laws
