@@ -43,7 +43,7 @@ fn item(s: &[u8], x: Structure, at: usize, end: usize) -> Step
 }
 
 // The members of a row, one after another, up to an end: where what follows them starts, or the first refusal in them.
-pub fn row(s: &[u8], x: Row, at: usize, end: usize) -> Step
+fn row(s: &[u8], x: Row, at: usize, end: usize) -> Step
     ensures { λ r. ⌜ r ≡ sheetScans (rowOf x) (now (s .entry)) at end ⌝ }
 {
     let members = rows::members_of(x);
