@@ -11,7 +11,6 @@ use Rattle.contents.specs.declared.Checked.the-variants.{Fine, Wrong}
 use Rattle.layouts.specs.Scan.{judgedAt}
 use Rattle.primitives.specs.declared.Content.{Content}
 use Rattle.primitives.specs.declared.Content.the-variants as content
-use Rattle.primitives.specs.declared.Primitive.the-variants as primitive
 use Rattle.primitives.specs.Primitive.{says}
 
 pub content-says : (s : List ℕ) (c : Content) (a z : ℕ) (w : List ℕ) (t : Bool) → w ≡ slice a z s → t ≡ same w (0x01 ∷ []) → t ≡ says c (slice a z s)

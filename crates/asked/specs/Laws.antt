@@ -1,7 +1,7 @@
 -- What is asked with numbers, case by case. Assumes nothing.
 use mathlib.Core.Path.{_≡_, ap, _∙_}
 use Prim.Native.Nat.{ℕ, _≤_, _<_}
-use mathlib.Core.List.{List, [], _∷_}
+use mathlib.Core.List.{List}
 use borrow.Author.Tests.{eq-eqb, ne-eqb, lt-ltb, le-ltb}
 use Rattle.terms.specs.declared.Field.{Field}
 use Rattle.terms.specs.declared.Field.the-variants.{SealType, ListKind, Width, Height, CertificateList, SealCustomData, SealCustomCritical, SignedCustomData, SignedCustomCritical}

@@ -20,7 +20,7 @@ use verdicts::Stamping;
 use verdicts::Verdict;
 ghost use Prim.Native.Nat.{_<_};
 
-// The bytes of the largest case, and of the largest destination.
+// The bytes of the largest case: no list in one has so many items.
 const LARGEST: usize = 70000;
 
 // More cases than are stored.

@@ -2,7 +2,7 @@
 use mathlib.Core.Path.{_≡_, refl, sym, ap, _∙_}
 use Prim.Native.Nat.{ℕ, suc, _+_, _-_, _≤_, _<_}
 use native.Mathlib.Omega.{arith}
-use mathlib.Core.List.{List, [], _∷_, _++_}
+use mathlib.Core.List.{List}
 use lib.ListN.{length, getD, set, take, replicate, length-set, length-replicate, List·getD-eq-default}
 use lib.Seq.{take-length, take-suc, take-suc-set}
 use borrow.Author.Tests.{ne-eqb}
@@ -21,13 +21,11 @@ use Rattle.layouts.specs.Passed.{recordPassed}
 use Rattle.layouts.specs.Laws.About.{whoseBy, Fresh, about-told, about-nothing}
 use Rattle.layouts.specs.Laws.Passed.{Front, passed-placed}
 use Rattle.layouts.specs.Laws.Places.{blank}
-use Rattle.layouts.specs.declared.Outcome.{Outcome}
 use Rattle.layouts.specs.declared.Outcome.the-variants.{Length, Refused as Unread}
 use Rattle.layouts.specs.declared.Whose.{Whose}
 use Rattle.layouts.specs.declared.Whose.the-variants.{Nothing, Record, Field as field}
 use Rattle.records.specs.Handing.{recordAnswer}
 use Rattle.entries.specs.Laws.{answers, tables}
-use Rattle.outcomes.specs.Outcome.{outcomeOf}
 use Rattle.readers.specs.Whole.{wholeWalk}
 use Rattle.readers.specs.Laws.{outcome-told}
 

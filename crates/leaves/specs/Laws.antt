@@ -21,7 +21,6 @@ use Rattle.contents.specs.declared.Checked.{Checked}
 use Rattle.tags.specs.declared.Tag.{Tag}
 use Rattle.tags.specs.Tag.{tagByte}
 use Rattle.layouts.specs.Scan.{judgedAt, leafAt}
-use Rattle.primitives.specs.declared.Content.the-variants as content
 use Rattle.primitives.specs.declared.Primitive.{Primitive}
 use Rattle.primitives.specs.declared.Primitive.the-variants as primitive
 use Rattle.primitives.specs.Primitive.{leafOf}

@@ -1,5 +1,5 @@
 -- A table put into a destination number by number, and what a reading leaves there. Assumes nothing.
-use mathlib.Core.Path.{_≡_, refl, sym, ap, _∙_, subst}
+use mathlib.Core.Path.{_≡_, refl, ap, _∙_}
 use Prim.Native.Nat.{ℕ, suc, _+_, _<_, _≤_}
 use mathlib.Core.List.{List, [], _∷_, _++_, append-assoc}
 use native.Mathlib.Omega.{arith}
@@ -10,7 +10,6 @@ use Rattle.terms.specs.Numbers.{largest-record, no-room}
 use Rattle.terms.specs.Answer.{Res, good, fault, pick, answered}
 use Rattle.terms.specs.Laws.Answer.{never}
 use Rattle.layouts.specs.Layout.{Members, Values}
-use Rattle.layouts.specs.Fields.{fields}
 use Rattle.layouts.specs.Places.{table-size, Placed}
 use Rattle.layouts.specs.Whole.{accept, toldOutcome}
 use Rattle.layouts.specs.declared.Outcome.{Outcome}

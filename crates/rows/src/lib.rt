@@ -123,7 +123,7 @@ fn property() -> [Member; MEMBERS]
     ]
 }
 
-// An entry of a kind 2 list: a name and a digest.
+// An entry of a kind 2 list: a type and a digest.
 fn digest() -> [Member; MEMBERS]
     ensures { λ r. ⌜ rowOf Row.Digest ≡ membersOf r ⌝ }
 {

@@ -6,8 +6,7 @@ use mathlib.Core.List.{List}
 use lib.ListN.{length, getD, drop}
 use lib.Dec.{eqb}
 use denote.Ref.{RefT}
-use Rattle.layouts.specs.Fields.{Entry, isField, first}
-use Rattle.layouts.specs.Places.{slot, under, numbersOf, Placed}
+use Rattle.layouts.specs.Places.{slot, under}
 use Rattle.records.specs.Part.{PartOf}
 use Rattle.cuts.specs.Handed.{partUnder, spanOf, within}
 use Rattle.screen_rows.specs.Screen.{rowOn, nameOn}
@@ -23,7 +22,3 @@ module _ (n : ℕ) (x : Row) (h : x ≡ rowOn n) (d : List ℕ) where
 
   pub part-on : (s z : RefT (List ℕ)) → PartOf s z (within (length (s .now)) (spanOf (partUnder (x .0) d))) → PartOf s z (within (length (s .now)) (spanOf (partUnder (nameOn n) d)))
   part-on s z k = subst (λ (y : Row). PartOf s z (within (length (s .now)) (spanOf (partUnder (y .0) d)))) h k
-
--- of a record that was read, a line has the field of its name and the index that is wanted, or zeros
-pub of-record : (k n : ℕ) (xs : List Entry) (d : List ℕ) → Placed k xs d → under (nameOn n) d ≡ numbersOf (first (isField (nameOn n) k) xs)
-of-record k n xs d h = h .1 (nameOn n)

@@ -42,7 +42,7 @@ use Rattle.rows.specs.Row.{membersOf}
 use Rattle.rows.specs.Size.{from, one-more, none-left, over}
 use Rattle.layouts.specs.declared.Tally.{Tally}
 use Rattle.layouts.specs.declared.Tally.the-variants.{Items, Refused as Uncounted}
-use Rattle.layouts.specs.Marks.{noted, blamed, afterSeen, afterStep, afterTally, thenTally, tally, manyMarks, leafMarks, marks, marksAll, recordMarks}
+use Rattle.layouts.specs.Marks.{noted, blamed, afterSeen, afterStep, afterTally, thenTally, tally, manyMarks, marks, recordMarks}
 use Rattle.list_heads.specs.Head.{listHeadAt}
 use Rattle.entries.specs.Entry.{leafWalk}
 use Rattle.entries.specs.Laws.{both, answers, tables}

@@ -7,7 +7,7 @@ use mathlib.Core.Bool.{Bool, true, false, not, _&&_}
 use mathlib.Core.Option.{none, some}
 use mathlib.Core.List.{List, [], _∷_, _++_}
 use lib.ListN.{length, getD, set, take, drop, replicate, length-append, length-replicate, length-set, getD-replicate, List·getD-append}
-use lib.Seq.{sets, sets-eq, length-sets, length-take-le, getD-set-same, getD-set-other, getD-append-add, ext-getD}
+use lib.Seq.{sets, sets-eq, length-take-le, getD-set-same, getD-set-other, getD-append-add, ext-getD}
 use lib.Dec.{T, eqb, ltb, T-not, eqb→eq, ltb→lt, nltb→le, lt→ltb}
 use borrow.Author.Tests.{eq-eqb}
 use Rattle.terms.specs.declared.Field.{Field}

@@ -4,7 +4,6 @@ use Prim.Native.Nat.{ℕ}
 use mathlib.Core.List.{List, [], _∷_, _++_}
 use lib.ListN.{set}
 use Rattle.terms.specs.declared.Field.{Field}
-use Rattle.terms.specs.declared.Field.the-variants as name
 use Rattle.terms.specs.declared.Field.the-variants.{SealInformation, Header, Vendor, SealId, Property, SealType, SealName, ListKind, CertificateList, ListedCertificate, ListedEntry, ListedType, ListedDigest, SealCustomCritical, SealCustomValue, SignedPart, Seal, SigningTime, PropertyText, Stamp}
 use Rattle.terms.specs.Numbers.{largest-record}
 use Rattle.layouts.specs.Fields.{Entry}

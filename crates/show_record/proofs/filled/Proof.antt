@@ -1,4 +1,4 @@
--- `prints::filled`: what is left of the row grows shorter.
+-- `show_record::filled`: what is left of the row grows shorter.
 use Prim.Native.Nat.{_≤_}
 use lib.ListN.{length}
 use borrow.Author.Needs.{needs}

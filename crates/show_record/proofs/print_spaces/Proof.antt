@@ -1,4 +1,4 @@
--- `show_record::prints::spaces`: each turn leaves fewer spaces.
+-- `show_record::print_spaces`: each turn leaves fewer spaces.
 use borrow.Author.Needs.{needs}
 use Prim.Native.Nat.{_-_}
 use Rattle.show_record.proofs.print_spaces.Statement.{statement}

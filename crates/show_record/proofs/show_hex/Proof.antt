@@ -1,4 +1,4 @@
--- `show_record::values::hex`: each turn leaves fewer bytes.
+-- `show_record::show_hex`: each turn leaves fewer bytes.
 use borrow.Author.Needs.{needs}
 use Prim.Native.Nat.{_-_}
 use lib.ListN.{length}

@@ -1,4 +1,4 @@
--- `show_record::values::text`: each character has a byte, so that each turn leaves fewer.
+-- `show_record::show_text`: each character has a byte, so that each turn leaves fewer.
 use borrow.Author.Needs.{needs}
 use Prim.Native.Nat.{_-_, _≤_}
 use lib.ListN.{length}

@@ -1,4 +1,4 @@
--- `show_record::prints::width`: each turn leaves fewer bytes.
+-- `show_record::width`: each turn leaves fewer bytes.
 use borrow.Author.Needs.{needs}
 use Prim.Native.Nat.{_-_}
 use lib.ListN.{length}
