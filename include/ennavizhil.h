@@ -10,12 +10,12 @@
  *   255       the end of a run
  *
  * ennavizhil_above gives the 56 bits above it: with 0 the length, start, count or number of bytes that each function names; with 1 to 19 the place of the
- * refusal, in bytes from the start of the record, run or sheet, and with 18 of a verdict 0; with 20 the bytes that the destination would have to have; with a
- * verdict 1 where the notice goes with it, else 0.
+ * refusal, in bytes from the start of the record, run or sheet, and with 18 of a verdict 0; with 20 the bytes, of a table of places the numbers, that the
+ * destination would have to have; with a verdict 1 where the notice goes with it, else 0.
  *
  * A slice is a pointer and the number of what stands there. What the caller owes: each pointer is valid for its length, a null pointer has length 0, and a
- * destination lies apart from every source. Nothing is written but a destination: as many bytes as are told with 0, and none where the answer is another.
- * Nothing is kept after a call, and calls share nothing, so they may be made from several threads. */
+ * destination lies apart from every source. Nothing is written but a destination: as many bytes as are told with 0, of a table of places its 173 numbers, and
+ * nothing where the answer is another. Nothing is kept after a call, and calls share nothing, so they may be made from several threads. */
 #ifndef ENNAVIZHIL_H
 #define ENNAVIZHIL_H
 
