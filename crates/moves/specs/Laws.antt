@@ -1,4 +1,6 @@
 -- What the functions over the table answer, a law for each step. Assumes nothing.
+pub mod Table
+pub mod Notes
 use mathlib.Core.Path.{_≡_, refl, sym, ap, _∙_}
 use Prim.Native.Nat.{ℕ, suc, _+_, _-_, _*_, _≤_, _<_}
 use native.Mathlib.Omega.{arith}
@@ -7,8 +9,8 @@ use native.Mathlib.Nat.{sub-zero}
 use mathlib.Core.Bool.{Bool, true, false}
 use mathlib.Core.List.{List, [], _∷_, _++_}
 use lib.ListN.{length, getD, drop}
-use lib.Dec.{leb, leb→le, nleb→lt}
-use borrow.Author.Tests.{le-ltb}
+use lib.Dec.{leb, ltb, leb→le, nleb→lt}
+use borrow.Author.Tests.{le-ltb, lt-ltb}
 use Rattle.terms.specs.declared.Field.{Field}
 use Rattle.terms.specs.Answer.{pick}
 use Rattle.terms.specs.Laws.Answer.{never, test}
@@ -33,32 +35,39 @@ use Rattle.rows.specs.Size as table
 use Rattle.rows.specs.Size.{size, sizes, sizeOf, from as rest, one-more, none-left, below}
 use Rattle.sides.specs.declared.Side.{Side}
 use Rattle.sides.specs.declared.Side.the-variants as side
-use Rattle.sides.specs.Move.{Moved, Body, join, joinBody, single, openAt, after, more, presentAt, valueAt, front, mark, moveMany, moveLeaf, moveKnown, moveFlag, move, moves}
+use Rattle.sides.specs.Move.{Moved, Body, join, joinBody, single, openAt, after, more, presentAt, valueAt, front, mark, closing, moveMany, moveLeaf, moveKnown, moveFlag, move, moves}
 use Rattle.stores.specs.Store.{cap, advance, put, puts}
 use Rattle.stores.specs.Laws.Store.{advance-capped, advance-small, advance-full, put-past, puts-to, puts-is, puts-then}
 use Rattle.pieces.specs.Piece.{wrote}
-use Rattle.moves.specs.Walk.{bare, inside, heldMove, memberMove, listMove, wroteBody}
+use Rattle.moves.specs.Walk.{bare, inside, heldMove, memberMove, listMove, wroteBody, wroteWithin}
+use Rattle.moves.specs.Notes.{noteBy, noteOf}
 
 -- ---- a number that falls from each function to those that it calls
 
 abbrev pub itemSize : Structure → ℕ
-itemSize x = 4 * size (layoutOf x)
+itemSize x = 6 * size (layoutOf x)
+
+abbrev pub heldSize : Structure → ℕ
+heldSize x = 6 * (size (layoutOf x) - 1) + 5
+
+abbrev pub measuredSize : Structure → ℕ
+measuredSize x = 6 * (size (layoutOf x) - 1) + 4
+
+abbrev pub storedSize : Structure → ℕ
+storedSize x = 6 * (size (layoutOf x) - 1) + 3
 
 -- of what stands in an item
 abbrev pub contentSize : Structure → ℕ
-contentSize x = 4 * (size (layoutOf x) - 1) + 2
-
-abbrev pub heldSize : Structure → ℕ
-heldSize x = 4 * (size (layoutOf x) - 1) + 3
+contentSize x = 6 * (size (layoutOf x) - 1) + 2
 
 abbrev pub rowSize : Row → ℕ
-rowSize x = 4 * sizes (rowOf x) + 1
+rowSize x = 6 * sizes (rowOf x) + 1
 
 abbrev pub listSize : Structure → ℕ
-listSize x = 4 * size (layoutOf x) + 1
+listSize x = 6 * size (layoutOf x) + 1
 
 abbrev pub memberSize : Member → ℕ
-memberSize m = 4 * sizeOf m
+memberSize m = 6 * sizeOf m
 
 -- what an item holds is smaller
 module _ (x : Structure) (k : Build) (t : Tag) (l : layoutOf x ≡ itemOf k) where
@@ -96,6 +105,25 @@ module _ (m : Member) where
 
   pub second-less : (f : Field) (l : Primitive) (c : Content) (g : Field) (x y : Structure) → m ≡ member.Choice f l c g x y → itemSize y < memberSize m
   second-less f l c g x y i = let a = table.second-less m f l c g x y i in omega arith
+
+-- what is measured or stored is the same item, with less to do
+pub holds-stored : (x : Structure) → storedSize x < heldSize x
+holds-stored x = omega arith
+
+pub holds-measured : (x : Structure) → measuredSize x < heldSize x
+holds-measured x = omega arith
+
+pub holds-content : (x : Structure) → contentSize x < heldSize x
+holds-content x = omega arith
+
+pub measured-stored : (x : Structure) → storedSize x < measuredSize x
+measured-stored x = omega arith
+
+pub measured-content : (x : Structure) → contentSize x < measuredSize x
+measured-content x = omega arith
+
+pub stored-content : (x : Structure) → contentSize x < storedSize x
+stored-content x = omega arith
 
 pub member-less : (ms : List Member) (d : Member) (k w : ℕ) → length ms ≡ w → k < w → (x : Row) (t : ℕ) → rowSize x ≡ t → rowOf x ≡ membersOf ms → sizes (rest k ms) ≤ sizes (membersOf ms) → memberSize (getD ms k d) < t
 member-less ms d k w n r x t h g f = let a = table.member-smaller ms d k w n r x (suc (sizes (rowOf x))) refl g f in omega arith
@@ -221,47 +249,50 @@ front-capped side.Record t listed k n = rw (octets-capped n)
 front-capped side.Sheet t true k n = refl
 front-capped side.Sheet t false k n = refl
 
-module _ (from to : Side) (s : List ℕ) (p e : ℕ) (d : List ℕ) (o : ℕ) (x : Structure) (t : Tag) (listed : Bool) (c a z : ℕ) (h : (c, a, z) ≡ openAt from (tagByte t) listed s p e) where
+-- what is noted says as much as the size and the number of items
+note-front : (to : Side) (t : ℕ) (listed : Bool) (b : Body) → front to t listed (noteOf to b) (noteOf to b) ≡ front to t listed (b .1) (length (b .2))
+unfolding front
+note-front side.Record t listed b = front-capped side.Record t listed (b .1) (length (b .2))
+note-front side.Sheet t true b = front-capped side.Sheet t true (b .1) (length (b .2))
+note-front side.Sheet t false b = front-capped side.Sheet t false (b .1) (length (b .2))
+
+pub held-closed : (from to : Side) (s : List ℕ) (p e : ℕ) (d : List ℕ) (o : ℕ) (x : Structure) (t : Tag) (listed : Bool) (c a z : ℕ) (w : Out) → (c, a, z) ≡ openAt from (tagByte t) listed s p e
+    → w ≡ wrote (closing from to (tagByte t) listed z (inside from to (layoutOf x) s c a z)) d o → w ≡ wrote (heldMove from to (layoutOf x) (tagByte t) listed s p e) d o
+unfolding heldMove
+held-closed from to s p e d o x t listed c a z w h g = rw (← h) g
+
+module _ (from to : Side) (s : List ℕ) (c a z : ℕ) (d : List ℕ) (o : ℕ) (x : Structure) (t : Tag) (listed : Bool) where
   body : Body
   body = inside from to (layoutOf x) s c a z
 
-  held-is : heldMove from to (layoutOf x) (tagByte t) listed s p e ≡ (after from z (body .0), front to (tagByte t) listed (body .1) (length (body .2)) ++ body .2)
-  unfolding heldMove body
-  held-is = rw (← h)
-
-  -- measured first: `r` bytes, stored in a destination of none
-  module _ (q j r : ℕ) (none none′ : List ℕ) (g : (q, j, r, none′) ≡ wroteBody (inside from to (layoutOf x) s c a z) none 0)
-      (o₁ : ℕ) (d₁ : List ℕ) (b : (o₁, d₁) ≡ puts (front to (tagByte t) listed j r) d o) where
-    size-is : r ≡ advance 0 (length (body .2))
-    unfolding body wroteBody
-    size-is = ap (λ (w : OutBody). w .2) g
-
+  -- what stands before it, by its note
+  module _ (v : ℕ) (h : v ≡ noteOf to (inside from to (layoutOf x) s c a z)) (o₁ : ℕ) (d₁ : List ℕ) (b : (o₁, d₁) ≡ puts (front to (tagByte t) listed v v) d o) where
     front-put : (o₁, d₁) ≡ puts (front to (tagByte t) listed (body .1) (length (body .2))) d o
-    unfolding body wroteBody
-    front-put =
-        let u : j ≡ body .1 = ap (λ (w : OutBody). w .1) g in
-        b ∙ ap (λ (y : List ℕ). puts y d o) (ap (λ (y : ℕ). front to (tagByte t) listed y r) u ∙ ap (front to (tagByte t) listed (body .1)) size-is ∙ front-capped to (tagByte t) listed (body .1) (length (body .2)))
+    unfolding body
+    front-put = b ∙ ap (λ (y : List ℕ). puts y d o) (ap (λ (n : ℕ). front to (tagByte t) listed n n) h ∙ note-front to (tagByte t) listed body)
 
-    held-wrote : wrote (after from z (body .0), body .2) d₁ o₁ ≡ wrote (heldMove from to (layoutOf x) (tagByte t) listed s p e) d o
-    held-wrote = wrote-more _ d o o₁ d₁ front-put (after from z (body .0), body .2) ∙ ap (λ (m : Moved). wrote m d o) (sym held-is)
+    -- then what stands in it
+    pub held-stored : (q j r : ℕ) (d₂ : List ℕ) (y : ℕ) → (q, j, r, d₂) ≡ wroteBody (inside from to (layoutOf x) s c a z) d₁ o₁ → y ≡ after from z q
+        → (y, r, d₂) ≡ wrote (closing from to (tagByte t) listed z (inside from to (layoutOf x) s c a z)) d o
+    unfolding wrote wroteBody body
+    held-stored q j r d₂ y f u =
+        let k : (after from z q, r, d₂) ≡ wrote (after from z (body .0), body .2) d₁ o₁ = ap (λ (w : OutBody). (after from z (w .0), w .2, w .3)) f in
+        let k′ : _≡_ {A = Out} (y, r, d₂) (after from z q, r, d₂) = rw u refl in
+        k′ ∙ k ∙ wrote-more _ d o o₁ d₁ front-put (after from z (body .0), body .2)
 
-    -- no room is left
-    pub held-past : (y n : ℕ) → length d₁ ≤ o₁ → y ≡ after from z q → n ≡ advance o₁ r → (y, n, d₁) ≡ wrote (heldMove from to (layoutOf x) (tagByte t) listed s p e) d o
-    unfolding wrote body wroteBody
-    held-past y n k u v =
-        let q′ : q ≡ body .0 = ap (λ (w : OutBody). w .0) g in
-        let n′ : n ≡ advance o₁ (length (body .2)) = v ∙ ap (advance o₁) size-is ∙ advance-capped o₁ (length (body .2)) in
-        let y′ : y ≡ after from z (body .0) = u ∙ ap (after from z) q′ in
-        let f : (y, n, d₁) ≡ wrote (after from z (body .0), body .2) d₁ o₁ = rw (y′, n′, put-past d₁ o₁ (body .2) k) refl in
-        f ∙ held-wrote
-
-    pub held-full : (q₂ j₂ r₂ : ℕ) (d₂ : List ℕ) (y : ℕ) → (q₂, j₂, r₂, d₂) ≡ wroteBody (inside from to (layoutOf x) s c a z) d₁ o₁ → y ≡ after from z q₂
-        → (y, r₂, d₂) ≡ wrote (heldMove from to (layoutOf x) (tagByte t) listed s p e) d o
-    unfolding wrote body wroteBody
-    held-full q₂ j₂ r₂ d₂ y f u =
-        let k : (after from z q₂, r₂, d₂) ≡ wrote (after from z (body .0), body .2) d₁ o₁ = ap (λ (w : OutBody). (after from z (w .0), w .2, w .3)) f in
-        let k′ : _≡_ {A = Out} (y, r₂, d₂) (after from z q₂, r₂, d₂) = rw u refl in
-        k′ ∙ k ∙ held-wrote
+  -- measured, where there is no room
+  pub held-measured : (q j r : ℕ) (none none′ : List ℕ) (v o₁ : ℕ) (d₁ : List ℕ) (y n : ℕ) → length d ≤ o → (q, j, r, none′) ≡ wroteBody (inside from to (layoutOf x) s c a z) none 0 → v ≡ noteBy to j r
+      → (o₁, d₁) ≡ puts (front to (tagByte t) listed v v) d o → y ≡ after from z q → n ≡ advance o₁ r → (y, n, d₁) ≡ wrote (closing from to (tagByte t) listed z (inside from to (layoutOf x) s c a z)) d o
+  unfolding wrote wroteBody body puts
+  held-measured q j r none none′ v o₁ d₁ y n k g h b u m =
+      let i : v ≡ noteOf to body = h ∙ ap (λ (w : OutBody). noteBy to (w .1) (w .2)) g in
+      let f : List ℕ = front to (tagByte t) listed (body .1) (length (body .2)) in
+      let y′ : y ≡ after from z (body .0) = u ∙ ap (λ (w : OutBody). after from z (w .0)) g in
+      let n′ : n ≡ advance o₁ (length (body .2)) = m ∙ ap (λ (w : OutBody). advance o₁ (w .2)) g ∙ advance-capped o₁ (length (body .2)) in
+      let n″ : advance o₁ (length (body .2)) ≡ advance o (length (f ++ body .2)) = ap (λ (w : ℕ × List ℕ). w .0) (puts-then f d o o₁ d₁ (front-put v i o₁ d₁ b) (body .2)) in
+      let d′ : d₁ ≡ d = puts-is f d o o₁ d₁ (front-put v i o₁ d₁ b) ∙ put-past d o f k in
+      let d″ : put d o (f ++ body .2) ≡ d = put-past d o (f ++ body .2) k in
+      rw (y′, n′, n″, d′, d″) refl
 
 bare-front : (to : Side) (t : ℕ) (listed : Bool) (k n : ℕ) → bare to listed ≡ true → front to t listed k n ≡ []
 unfolding front
@@ -395,11 +426,59 @@ module _ (from to : Side) (i : Item) (m k n : ℕ) (s : List ℕ) (p e : ℕ) (d
   unfolding listMove moveMany wroteBody advance put
   list-over h = let z : m - k ≡ 0 = omega arith in rw z
 
+-- ---- an item that fits
+
+module _ (m : Moved) (q n : ℕ) (c c′ : List ℕ) (g : (q, n, c′) ≡ wrote m c 0) (most : ℕ) (d : List ℕ) where
+  size-is : n ≡ advance 0 (length (m .1))
+  unfolding wrote
+  size-is = ap (λ (w : Out). w .1) g
+
+  next-is : q ≡ m .0
+  unfolding wrote
+  next-is = ap (λ (w : Out). w .0) g
+
+  pub within-large : most < n → (q, n, d) ≡ wroteWithin most m d
+  unfolding wroteWithin pick
+  within-large h = rw (next-is, ← size-is, lt-ltb most n h)
+
+  module _ (h : n ≤ most) where
+    pub within-short : length d < n → (q, n, d) ≡ wroteWithin most m d
+    unfolding wroteWithin pick
+    within-short k = rw (next-is, ← size-is, le-ltb most n h, lt-ltb (length d) n k)
+
+    pub within-all : (w : Out) → n ≤ length d → w ≡ wrote m d 0 → w ≡ wroteWithin most m d
+    unfolding wroteWithin pick
+    within-all w k f = rw (← size-is, le-ltb most n h, le-ltb (length d) n k) f
+
+-- what its size says of the destination
+module _ (m : Moved) (most : ℕ) (d : List ℕ) (q n : ℕ) (d′ : List ℕ) (g : (q, n, d′) ≡ wroteWithin most m d) where
+  pub fitted-size : n ≡ advance 0 (length (m .1))
+  unfolding wroteWithin wrote pick
+  fitted-size = ap (λ (w : Out). w .1) g ∙ go (ltb most (advance 0 (length (m .1)))) (ltb (length d) (advance 0 (length (m .1))))
+    where
+      go : (a b : Bool) → (pick {A = Out} a (m .0, advance 0 (length (m .1)), d) (pick b (m .0, advance 0 (length (m .1)), d) (m .0, advance 0 (length (m .1)), put d 0 (m .1)))) .1 ≡ advance 0 (length (m .1))
+      go true b = refl
+      go false true = refl
+      go false false = refl
+
+  pub fitted-large : most < n → d′ ≡ d
+  unfolding wroteWithin pick
+  fitted-large h = ap (λ (w : Out). w .2) g ∙ rw (← fitted-size, lt-ltb most n h)
+
+  module _ (h : n ≤ most) where
+    pub fitted-short : length d < n → d′ ≡ d
+    unfolding wroteWithin pick
+    fitted-short k = ap (λ (w : Out). w .2) g ∙ rw (← fitted-size, le-ltb most n h, lt-ltb (length d) n k)
+
+    pub fitted-all : n ≤ length d → d′ ≡ put d 0 (m .1)
+    unfolding wroteWithin pick wrote
+    fitted-all k = ap (λ (w : Out). w .2) g ∙ rw (← fitted-size, le-ltb most n h, le-ltb (length d) n k)
+
 -- ---- what each function's answers are found by
 
 pub ruleset item-steps = (item-leaf, item-node, item-list, item-wrap)
 
-pub ruleset held-steps = (held-bare, held-past, held-full)
+pub ruleset held-steps = (held-bare, held-closed, held-stored, held-measured)
 
 pub ruleset content-steps = (content-leaf, content-node, content-list, content-wrap)
 
@@ -408,4 +487,4 @@ pub ruleset member-steps = (member-blank, member-known, member-leaf, member-part
 pub ruleset list-steps = (list-stop, list-over)
 
 -- what is called is smaller
-pub ruleset smaller = (below, node-holds, node-less, list-holds, list-less, wrap-holds, wrap-less, part-less, maybe-less, first-less, second-less, member-less)
+pub ruleset smaller = (below, node-holds, node-less, list-holds, list-less, wrap-holds, wrap-less, part-less, maybe-less, first-less, second-less, member-less, holds-stored, holds-measured, holds-content, measured-stored, measured-content, stored-content)

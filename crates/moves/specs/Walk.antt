@@ -4,6 +4,8 @@ use Prim.Native.Nat.{ℕ, _-_}
 use mathlib.Core.Bool.{Bool, false, not}
 use mathlib.Core.List.{List, []}
 use lib.ListN.{length}
+use lib.Dec.{ltb}
+use Rattle.terms.specs.Answer.{pick}
 use Rattle.layouts.specs.Layout.{Item, leaf, node, list, wrap, maybe}
 use Rattle.primitives.specs.Primitive.{leafOf, knownOf}
 use Rattle.structures.specs.Structure.{layoutOf}
@@ -14,6 +16,7 @@ use Rattle.sides.specs.declared.Side.{Side}
 use Rattle.sides.specs.declared.Side.the-variants as side
 use Rattle.sides.specs.Move.{Moved, Body, single, holding, moveMany, moveLeaf, moveKnown, moveFlag, move, moves, movePart}
 use Rattle.stores.specs.Store.{advance, put}
+use Rattle.pieces.specs.Piece.{wrote}
 
 -- whether nothing stands before what an item holds
 abbrev pub bare : Side → Bool → Bool
@@ -49,3 +52,9 @@ module _ (from to : Side) where
 -- the number of a list's items beside what `wrote` has
 unfoldable pub wroteBody : Body → List ℕ → ℕ → ℕ × ℕ × ℕ × List ℕ
 wroteBody b d o = (b .0, b .1, advance o (length (b .2)), put d o (b .2))
+
+-- what is moved, stored from the start of a destination where it has at most `most` bytes and room; else counted alone
+unfoldable pub wroteWithin : ℕ → Moved → List ℕ → ℕ × ℕ × List ℕ
+wroteWithin most m d =
+    let n : ℕ = advance 0 (length (m .1)) in
+    pick (ltb most n) (m .0, n, d) (pick (ltb (length d) n) (m .0, n, d) (wrote m d 0))

@@ -37,56 +37,55 @@ use Rattle.sides.specs.Move.{Moved, move}
 use Rattle.sides.specs.Laws.Move.{move-read, move-fill}
 use Rattle.stores.specs.Store.{cap, advance}
 use Rattle.stores.specs.Laws.Store.{advance-small, advance-full, put-start}
-use Rattle.pieces.specs.Piece.{wrote}
+use Rattle.moves.specs.Walk.{wroteWithin}
+use Rattle.moves.specs.Laws.{fitted-size, fitted-large, fitted-short, fitted-all}
 use Rattle.sheets.specs.Send.{outcomeOf, sent, ends}
 
 -- ---- an item sent
 
-module _ (from to : Side) (i : Item) (s d : List ℕ) (most : ℕ) (m : most < cap) (q n : ℕ) (c c′ : List ℕ) (g : (q, n, c′) ≡ wrote (move from to i s 0 (length s)) c 0) where
-  out : List ℕ
-  out = move from to i s 0 (length s) .1
+abbrev out : Side → Side → Item → List ℕ → List ℕ
+out from to i s = move from to i s 0 (length s) .1
 
-  size-is : n ≡ advance 0 (length out)
-  unfolding out wrote
-  size-is = ap (λ (w : ℕ × ℕ × List ℕ). w .1) g
+module _ (from to : Side) (i : Item) (s d : List ℕ) (most : ℕ) (m : most < cap) (q n : ℕ) (d′ : List ℕ) (g : (q, n, d′) ≡ wroteWithin most (move from to i s 0 (length s)) d) where
+  size-is : n ≡ advance 0 (length (out from to i s))
+  size-is = fitted-size (move from to i s 0 (length s)) most d q n d′ g
 
-  size-exact : n ≤ most → n ≡ length out
+  size-exact : n ≤ most → n ≡ length (out from to i s)
   size-exact h =
       let a = size-is in
-      test (leb (length out) cap)
-      (λ k. let b = advance-small 0 (length out) (leb→le (0 + length out) cap (rw zero-add k)) in omega arith)
-      (λ k. let b = advance-full 0 (length out) (omega arith) (let e = nleb→lt (length out) cap k in omega arith) in absurd (omega arith))
+      test (leb (length (out from to i s)) cap)
+      (λ k. let b = advance-small 0 (length (out from to i s)) (leb→le (0 + length (out from to i s)) cap (rw zero-add k)) in omega arith)
+      (λ k. let b = advance-full 0 (length (out from to i s)) (omega arith) (let e = nleb→lt (length (out from to i s)) cap k in omega arith) in absurd (omega arith))
 
-  size-over : most < n → most < length out
+  size-over : most < n → most < length (out from to i s)
   size-over h =
       let a = size-is in
-      test (leb (length out) cap)
-      (λ k. let b = advance-small 0 (length out) (leb→le (0 + length out) cap (rw zero-add k)) in omega arith)
-      (λ k. let e = nleb→lt (length out) cap k in omega arith)
+      test (leb (length (out from to i s)) cap)
+      (λ k. let b = advance-small 0 (length (out from to i s)) (leb→le (0 + length (out from to i s)) cap (rw zero-add k)) in omega arith)
+      (λ k. let e = nleb→lt (length (out from to i s)) cap k in omega arith)
 
-  pub send-large : most < n → (Denied too-large 0, d) ≡ ends (sent most (move from to i s 0 (length s) .1) (length d)) d
-  unfolding ends sent stored need out
-  send-large h = rw (lt-leb (length out) most (size-over h))
+  pub send-large : most < n → (Denied too-large 0, d′) ≡ ends (sent most (move from to i s 0 (length s) .1) (length d)) d
+  unfolding ends sent stored need
+  send-large h = rw (lt-leb (length (out from to i s)) most (size-over h), fitted-large (move from to i s 0 (length s)) most d q n d′ g h)
 
-  pub send-short : n ≤ most → length d < n → (Denied no-room n, d) ≡ ends (sent most (move from to i s 0 (length s) .1) (length d)) d
-  unfolding ends sent stored need out fit
-  send-short h k =
-      let e : n ≡ length out = size-exact h in
-      let a : length out ≤ most = omega arith in
-      let b : length d < length out = omega arith in
-      rw (le-leb (length out) most a, lt-leb (length out) (length d) b, e) refl
+  pub send-short : length d′ ≡ length d → n ≤ most → length d′ < n → (Denied no-room n, d′) ≡ ends (sent most (move from to i s 0 (length s) .1) (length d)) d
+  unfolding ends sent stored need fit
+  send-short l h k =
+      let e : n ≡ length (out from to i s) = size-exact h in
+      let a : length (out from to i s) ≤ most = omega arith in
+      let j : length d < n = omega arith in
+      let b : length d < length (out from to i s) = omega arith in
+      rw (le-leb (length (out from to i s)) most a, lt-leb (length (out from to i s)) (length d) b, fitted-short (move from to i s 0 (length s)) most d q n d′ g h j, e) refl
 
-  pub send-all : (q′ n′ : ℕ) (d′ : List ℕ) → n ≤ most → n ≤ length d → (q′, n′, d′) ≡ wrote (move from to i s 0 (length s)) d 0
-      → (Length n′, d′) ≡ ends (sent most (move from to i s 0 (length s) .1) (length d)) d
-  unfolding ends sent stored need out fit wrote
-  send-all q′ n′ d′ h k f =
-      let e : n ≡ length out = size-exact h in
-      let a : length out ≤ most = omega arith in
-      let b : length out ≤ length d = omega arith in
-      let u : n′ ≡ advance 0 (length out) = ap (λ (w : ℕ × ℕ × List ℕ). w .1) f in
-      let v : n′ ≡ length out = u ∙ sym size-is ∙ e in
-      let w : d′ ≡ out ++ drop (length out) d = ap (λ (w : ℕ × ℕ × List ℕ). w .2) f ∙ put-start d out (omega arith) b in
-      rw (le-leb (length out) most a, le-leb (length out) (length d) b, v, w) refl
+  pub send-all : length d′ ≡ length d → n ≤ most → n ≤ length d′ → (Length n, d′) ≡ ends (sent most (move from to i s 0 (length s) .1) (length d)) d
+  unfolding ends sent stored need fit
+  send-all l h k =
+      let e : n ≡ length (out from to i s) = size-exact h in
+      let a : length (out from to i s) ≤ most = omega arith in
+      let j : n ≤ length d = omega arith in
+      let b : length (out from to i s) ≤ length d = omega arith in
+      let w : d′ ≡ (out from to i s) ++ drop (length (out from to i s)) d = fitted-all (move from to i s 0 (length s)) most d q n d′ g h j ∙ put-start d (out from to i s) (omega arith) b in
+      rw (le-leb (length (out from to i s)) most a, le-leb (length (out from to i s)) (length d) b, e, w) refl
 
 -- what the answer tells, and the destination
 told-ends : (z : Res (List ℕ)) → toldOutcome (outcomeOf z) ≡ answered (λ x. length x) z

@@ -36,18 +36,15 @@ fn send(s: &[u8], from: Side, to: Side, x: Structure, most: usize, dst: &mut [u8
     requires { ⌜ most < cap ⌝ }
     ensures { λ r. ⌜ (r, now (dst .exit)) ≡ ends (sent most (moveItem from to (layoutOf x) (now (s .entry)) 0 (length (now (s .entry))) .1) (length (now (dst .entry)))) (now (dst .entry)) ⌝ }
 {
-    let mut nothing = [0u8; 0];
-    let none: &mut [u8] = &mut nothing;
-    let n = moves::item(s, from, to, x, 0, s.len(), none, 0);
-    let size = n.to;
+    let m = moves::item(s, from, to, x, 0, s.len(), most, dst);
+    let size = m.to;
     if most < size {
         return Outcome::Refused(TOO_LARGE, 0);
     }
     if dst.len() < size {
         return Outcome::Refused(NO_ROOM, size);
     }
-    let m = moves::item(s, from, to, x, 0, s.len(), dst, 0);
-    Outcome::Length(m.to)
+    Outcome::Length(size)
 }
 
 // The sheet of a record: the bytes written, or the record's refusal, then 20.
