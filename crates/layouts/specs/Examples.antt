@@ -1,10 +1,11 @@
--- A small layout with an optional list, a choice and a flag, evaluated. Assumes nothing.
+-- A small layout with an optional list, a choice and a flag, and a list of such, evaluated. Assumes nothing.
 use mathlib.Core.Path.{_≡_, refl}
 use Prim.Native.Nat.{ℕ}
 use mathlib.Core.Bool.{true}
 use mathlib.Core.List.{List, [], _∷_, _++_}
 use lib.ListN.{length, replicate, set, take, drop}
-use Rattle.terms.specs.declared.Field.the-variants.{Header, ListKind, CertificateList, ListedDigest, SealCustomData, SealCustomItem, SealCustomCritical, Stamp}
+use Rattle.terms.specs.declared.Field.{Field}
+use Rattle.terms.specs.declared.Field.the-variants.{Header, Property, ListKind, CertificateList, ListedEntry, ListedDigest, SealCustomData, SealCustomItem, SealCustomCritical, Stamp}
 use Rattle.terms.specs.Numbers.{done, other-tag, bad-boolean, left-over, bad-bits, no-bytes, too-many-items, too-large, bad-sheet, no-room}
 use Rattle.terms.specs.Answer.{good, pick, bind, need, have, every, enough, same, finish, Told, told-one, refusal, answered, never-empty}
 use Rattle.terms.specs.Digits.{digits, numberFrom, number, leading}
@@ -13,10 +14,12 @@ use Rattle.heads.specs.Head.{spell, octets, tlv, unspell, anySize, isShortest, 
 use Rattle.contents.specs.Content.{ask, placeOf, judge}
 use Rattle.contents.specs.Rules.{octetsRule, booleanRule}
 use Rattle.contents.specs.Leaves.{octetString, bitString}
-use Rattle.layouts.specs.Layout.{Members, end, _▸_, leaf, node, list, one, maybe, flag, choose, each, option, either, encodeLeaf, critical, encode}
+use Rattle.layouts.specs.Layout.{Members, end, _▸_, leaf, node, list, wrap, one, maybe, flag, choose, each, option, either, encodeLeaf, critical, encode}
 use Rattle.layouts.specs.Reading.{behind, readLeaf, begins, many, readOption, readFlag, readEither, read}
 use Rattle.layouts.specs.Sheet.{count, section, criticalByte, sheetOption, sheetList, sheet, readCount, readSection, fillLeaf, times, criticalIn, fillFlag, fillOption, fillList, fill}
 use Rattle.layouts.specs.Whole.{sequence, recordOf, recordAt, accept, acceptSheet, fit, fillSheet, writeRecord, stored, toldOutcome}
+use Rattle.layouts.specs.Fields.{Entry, listEntry, eachFields, optionFields, eitherFields, flagFields, itemFields, fields}
+use Rattle.layouts.specs.Passed.{passedLeaf, passedMany, passed, recordPassed}
 use Rattle.layouts.specs.Places.{table-size, slot, under, wanted}
 use Rattle.layouts.specs.declared.Outcome.the-variants.{Length, Refused}
 
@@ -176,3 +179,66 @@ small-sheets = agreed writings tt
 places : under Header (0 ∷ 1 ∷ 2 ∷ 3 ∷ 4 ∷ 5 ∷ 6 ∷ 7 ∷ []) ++ slot Stamp ∷ wanted (replicate 172 0 ++ 9 ∷ []) ∷ table-size ∷ [] ≡ 4 ∷ 5 ∷ 6 ∷ 7 ∷ 168 ∷ 9 ∷ 173 ∷ []
 unfolding under slot wanted
 places = refl
+
+-- ---- the fields that are passed
+
+-- one to three items in a list, each a small record in [0]
+abbrev nested : Members
+nested = one Property (list sequence never-empty 3 ListedEntry (wrap 0xA0 (node sequence small))) ▸ end
+
+abbrev threeItems : List ℕ
+threeItems =
+    0x30 ∷ 0x2D ∷ 0x30 ∷ 0x2B
+    ∷ 0xA0 ∷ 0x08 ∷ 0x30 ∷ 0x06 ∷ 0x04 ∷ 0x01 ∷ 0x01 ∷ 0x04 ∷ 0x01 ∷ 0xAA
+    ∷ 0xA0 ∷ 0x15 ∷ 0x30 ∷ 0x13 ∷ 0x04 ∷ 0x01 ∷ 0x02 ∷ 0x30 ∷ 0x03 ∷ 0x04 ∷ 0x01 ∷ 0xBB
+    ∷ 0x01 ∷ 0x01 ∷ 0xFF
+    ∷ 0x30 ∷ 0x06 ∷ 0x04 ∷ 0x01 ∷ 0xC1 ∷ 0x04 ∷ 0x01 ∷ 0xC2
+    ∷ 0xA0 ∷ 0x08 ∷ 0x30 ∷ 0x06 ∷ 0x04 ∷ 0x01 ∷ 0x01 ∷ 0x04 ∷ 0x01 ∷ 0xAB ∷ []
+
+-- a byte more in the last item's SEQUENCE
+abbrev aByteMore : List ℕ
+aByteMore = set (set (set (set threeItems 1 0x2E) 3 0x2C) 38 0x09) 40 0x07 ++ 0x00 ∷ []
+
+-- a field: its name, its index, where it starts, how many bytes it has, and of a list how many items
+abbrev Standing : Type 0
+Standing = Field × ℕ × ℕ × ℕ × ℕ
+
+-- those of the items, the last of which has `n` bytes
+abbrev inItems : ℕ → List Standing
+inItems n =
+    (ListedEntry, 0, 6, 8, 0) ∷ (ListKind, 0, 10, 1, 0) ∷ (CertificateList, 0, 13, 1, 0)
+    ∷ (ListedEntry, 1, 16, 21, 0) ∷ (ListKind, 1, 20, 1, 0) ∷ (CertificateList, 1, 21, 5, 0) ∷ (ListedDigest, 1, 25, 1, 0)
+    ∷ (SealCustomCritical, 1, 28, 1, 0)
+    ∷ (SealCustomItem, 0, 33, 1, 0) ∷ (SealCustomItem, 1, 36, 1, 0) ∷ (SealCustomData, 1, 29, 8, 2)
+    ∷ (ListedEntry, 2, 39, n, 0) ∷ (ListKind, 2, 43, 1, 0) ∷ (CertificateList, 2, 46, 1, 0) ∷ []
+
+-- a record of at most so many bytes, and the fields that are passed in it
+abbrev passings : List (Members × ℕ × List ℕ × List Standing)
+passings =
+    -- an accepted record; bytes left over in an item: the list is not over
+    (nested, 100, threeItems, inItems 8 ++ (Property, 0, 2, 45, 3) ∷ [])
+    ∷ (nested, 100, aByteMore, inItems 9)
+    -- a list with no item, and with a third one; what is left over is no field
+    ∷ (nested, 100, 0x30 ∷ 0x02 ∷ 0x30 ∷ 0x00 ∷ [], [])
+    ∷ (small, 100, of1 17 (0x30 ∷ 0x09 ∷ 0x04 ∷ 0x01 ∷ 0x01 ∷ 0x04 ∷ 0x01 ∷ 0x02 ∷ 0x04 ∷ 0x01 ∷ 0x03 ∷ []), (ListKind, 0, 4, 1, 0) ∷ (CertificateList, 0, 7, 1, 0) ∷ (SealCustomItem, 0, 12, 1, 0) ∷ (SealCustomItem, 1, 15, 1, 0) ∷ [])
+    ∷ (small, 100, of1 12 (0x01 ∷ 0x01 ∷ 0xFF ∷ 0x01 ∷ 0x01 ∷ 0xFF ∷ []), (ListKind, 0, 4, 1, 0) ∷ (CertificateList, 0, 7, 1, 0) ∷ (SealCustomCritical, 0, 10, 1, 0) ∷ [])
+    -- a record that is too large
+    ∷ (small, 7, of1 6 [], [])
+    ∷ []
+
+-- each with its own bytes in the record
+abbrev standing : List ℕ → List Standing → List Entry
+standing w [] = []
+standing w (x ∷ xs) = listEntry (x .0) (x .1) (x .2) (take (x .3) (drop (x .2) w)) (x .4) ∷ standing w xs
+
+abbrev found : List (Members × ℕ × List ℕ × List Standing) → List (List Entry)
+found [] = []
+found (x ∷ xs) = recordPassed (x .1) (x .0) (x .2) ∷ found xs
+
+abbrev expected : List (Members × ℕ × List ℕ × List Standing) → List (List Entry)
+expected [] = []
+expected (x ∷ xs) = standing (x .2) (x .3) ∷ expected xs
+
+fields-passed : found passings ≡ expected passings
+unfolding evaluate eachFields optionFields eitherFields flagFields itemFields fields passed passedLeaf passedMany recordPassed
+fields-passed = refl

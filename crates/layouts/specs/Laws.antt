@@ -10,3 +10,4 @@ pub mod Each
 pub mod Way
 pub mod About
 pub mod Passed
+pub mod Stand

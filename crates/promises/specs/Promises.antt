@@ -27,8 +27,10 @@ use Rattle.layouts.specs.Whole.{sequence, recordOf, Allowed, recordAt, acceptSh
 use Rattle.layouts.specs.Fields.{Entry, fields, Stands, isField, first}
 use Rattle.layouts.specs.Places.{under, numbersOf, Placed}
 use Rattle.layouts.specs.About.{recordAbout}
+use Rattle.layouts.specs.Passed.{recordPassed}
 use Rattle.layouts.specs.declared.Whose.the-variants.{Nothing}
 use Rattle.layouts.specs.Laws.About as About
+use Rattle.layouts.specs.Laws.Stand as Stand
 use Rattle.layouts.specs.Laws.Reading.{clear, clears, spare}
 use Rattle.layouts.specs.Laws.Whole.{Wrote, Kept}
 use Rattle.layouts.specs.Laws.Whole as Whole
@@ -135,6 +137,10 @@ module _ (r : Members) (k : Clear r) where
 
   pub accepted-is-about-nothing : (w : List ℕ) (v : Values r) → readRecord r w ≡ good v → recordAbout largest-record r w ≡ Nothing
   accepted-is-about-nothing w v e = About.accepted-about largest-record r w v e
+
+  -- and the fields that were passed, of a refused record those before the fault, are their own bytes in the caller's record
+  pub passed-stand-there : (w : List ℕ) → All (Stands w) (recordPassed largest-record r w)
+  passed-stand-there w = Stand.passed-stand largest-record r w
 
   -- a part that is handed out is the field's own bytes, and lies where they lie in the caller's record; of a refused record, or where no such field
   -- is there, it has no bytes and lies at the record's start. `z` is a part of `s` by a contract: of an accessor, or of the matching entry

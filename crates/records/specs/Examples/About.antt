@@ -4,7 +4,7 @@ use Prim.Native.Nat.{ℕ}
 use mathlib.Core.List.{List, [], _∷_, _++_}
 use lib.ListN.{set}
 use Rattle.terms.specs.declared.Field.{Field}
-use Rattle.terms.specs.declared.Field.the-variants.{SealInformation, Header, Vendor, SealId, Property, SealType, SealName, ListKind, CertificateList, ListedCertificate, ListedEntry, ListedType, ListedDigest, SealCustomCritical, SealCustomValue, SignedPart, Seal, SigningTime, PropertyText, Stamp}
+use Rattle.terms.specs.declared.Field.the-variants.{SealInformation, Header, Vendor, SealId, Property, SealType, SealName, ListKind, CertificateList, ListedCertificate, ListedEntry, ListedType, ListedDigest, SealCustomCritical, SealCustomValue, SignedPart, Seal, SigningTime, PropertyText, SignedCustomCritical, Stamp}
 use Rattle.terms.specs.Numbers.{largest-record}
 use Rattle.layouts.specs.Fields.{Entry}
 use Rattle.layouts.specs.About.{aboutMany, about, recordAbout}
@@ -29,16 +29,19 @@ faults =
     ∷ (0x30 ∷ 0x00 ∷ [], field SignedPart)
     ∷ (0x30 ∷ 0x06 ∷ 0x30 ∷ 0x03 ∷ 0x02 ∷ 0x01 ∷ 0x04 ∷ 0x30 ∷ [], field Seal)
     ∷ (set recordD 141 0x07, field SealCustomValue)
-    -- a head: the signed part's, the seal id's, the stamp's [0] and what stands in it
+    -- a head: the signed part's, the seal id's, the list's of each kind, the stamp's [0] and what stands in it
     ∷ (set recordS 5 0xA0, field SignedPart)
     ∷ (set recordS 24 0x0C, field SealId)
+    ∷ (set recordS 37 0x31, field CertificateList)
+    ∷ (set recordD 47 0x31, field CertificateList)
     ∷ (set recordD 247 0x80, field Stamp)
     ∷ (set recordD 248 0x04, field Stamp)
-    -- an item's own rule: the list kind, a certificate, a PrintableString, critical, the signing time, the text
+    -- an item's own rule: the list kind, a certificate, a PrintableString, critical, also inside [0], the signing time, the text
     ∷ (set recordS 36 0x03, field ListKind)
     ∷ (set recordS 40 0x00, field ListedCertificate)
     ∷ (set recordD 64 0x40, field ListedType)
     ∷ (set recordD 148 0x01, field SealCustomCritical)
+    ∷ (set recordD 221 0x00, field SignedCustomCritical)
     ∷ (set recordS 125 0x0E, field SigningTime)
     ∷ (set recordS 147 0x80, field PropertyText)
     -- an item of one content: the two versions and "ES"
@@ -50,9 +53,10 @@ faults =
     ∷ (set recordD 138 0x31, field SealInformation)
     ∷ (set recordD 210 0xA1, field SignedPart)
     ∷ (set recordD 249 0x03, field Stamp)
-    -- a list with no item, and with one too many; a fault in one of its items goes before
+    -- a list with no item, and with one too many, of any tag; a fault in one of its items goes before
     ∷ (listOf0, field CertificateList)
     ∷ (listOf65 (0x04 ∷ 0x01 ∷ 0xAA ∷ []), field CertificateList)
+    ∷ (listOf65 (0x05 ∷ 0x01 ∷ 0xAA ∷ []), field CertificateList)
     ∷ (set (listOf65 (0x04 ∷ 0x01 ∷ 0xAA ∷ [])) 237 0x05, field ListedCertificate)
     ∷ []
 
@@ -67,6 +71,11 @@ expected (x ∷ xs) = x .1 ∷ expected xs
 whose-faults : found faults ≡ expected faults
 unfolding evaluate about aboutMany recordAbout
 whose-faults = refl
+
+-- 17 goes before what stands in the record: S has 165 bytes
+when-too-large : recordAbout 164 signature recordS ∷ recordAbout 164 signature (set recordS 24 0x0C) ∷ recordAbout 165 signature (set recordS 24 0x0C) ∷ [] ≡ Record ∷ Record ∷ field SealId ∷ []
+unfolding evaluate about aboutMany recordAbout
+when-too-large = refl
 
 -- ---- the fields before a fault
 
