@@ -21,7 +21,7 @@ ghost use Rattle.pieces.specs.Piece.{wrote};
 ghost use Rattle.moves.specs.Walk.{bare, inside, heldMove, memberMove, listMove, wroteBody, wroteWithin};
 ghost use Rattle.moves.specs.Notes.{noteBy, noteOf, notes, notesAll, insideNotes, heldNotes, frontNotes, memberNotes, listNotes, Ready};
 
-// How many notes there is room for: a record of the rules has at most 205 items that hold others.
+// How many notes there is room for: a record of the rules has at most 204 items that hold others.
 const SLOTS: usize = 256;
 
 // Where what follows starts in the source and in the destination, and where its notes start.

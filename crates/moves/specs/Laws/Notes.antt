@@ -1,6 +1,6 @@
 -- What is noted at each step, and what is known before it. Assumes nothing.
 use mathlib.Core.Path.{_≡_, refl, sym, ap, _∙_, subst}
-use Prim.Native.Nat.{ℕ, zero, suc, _+_, _-_, _≤_, _<_}
+use Prim.Native.Nat.{ℕ, suc, _+_, _-_, _≤_, _<_}
 use native.Mathlib.Omega.{arith}
 use native.Mathlib.Numerals.{add-one}
 use native.Mathlib.Nat.{sub-zero}
@@ -8,13 +8,13 @@ use mathlib.Core.Bool.{Bool, true, false, _&&_}
 use mathlib.Core.List.{List, [], _∷_, _++_}
 use lib.ListN.{length, getD, set, drop, List·getD-eq-default}
 use lib.Seq.{set-out}
-use lib.Dec.{T, ltb, ltb→lt}
+use lib.Dec.{ltb, ltb→lt}
 use Rattle.terms.specs.declared.Field.{Field}
 use Rattle.terms.specs.Answer.{pick}
 use Rattle.terms.specs.Laws.Answer.{and-l, and-r, is-true}
 use Rattle.tags.specs.declared.Tag.{Tag}
 use Rattle.tags.specs.Tag.{tagByte}
-use Rattle.layouts.specs.Layout.{Item, leaf, node, list, wrap, Members, end, maybe, tagOf}
+use Rattle.layouts.specs.Layout.{Item, Members, tagOf}
 use Rattle.primitives.specs.declared.Content.{Content}
 use Rattle.primitives.specs.declared.Primitive.{Primitive}
 use Rattle.primitives.specs.declared.Word.{Word}
@@ -26,15 +26,15 @@ use Rattle.structures.specs.declared.Build.the-variants as build
 use Rattle.structures.specs.Structure.{rowOf, layoutOf, itemOf}
 use Rattle.rows.specs.declared.Member.{Member}
 use Rattle.rows.specs.declared.Member.the-variants as member
-use Rattle.rows.specs.Row.{membersOf, choiceOf}
+use Rattle.rows.specs.Row.{membersOf}
 use Rattle.rows.specs.Size.{from as rest, one-more, none-left}
 use Rattle.sides.specs.declared.Side.{Side}
-use Rattle.sides.specs.Move.{Moved, Body, openAt, more, presentAt, valueAt, moveMany, moveLeaf, move, moves}
-use Rattle.stores.specs.Store.{cap, advance, put, puts}
+use Rattle.sides.specs.Move.{openAt, more, presentAt, valueAt, moveLeaf, move}
+use Rattle.stores.specs.Store.{cap, advance, puts}
 use Rattle.stores.specs.Laws.Store.{puts-then, puts-none}
 use Rattle.pieces.specs.Piece.{wrote}
 use Rattle.moves.specs.Walk.{bare, inside, memberMove, wroteBody}
-use Rattle.moves.specs.Notes.{noteBy, noteOf, notesMany, notes, notesAll, notesPart, insideNotes, heldNotes, frontNotes, memberNotes, listNotes, Ready}
+use Rattle.moves.specs.Notes.{noteBy, noteOf, notesMany, notes, notesAll, insideNotes, heldNotes, frontNotes, memberNotes, listNotes, Ready}
 use Rattle.moves.specs.Laws.Table.{ready-known, ready-read, ready-first, ready-rest, noted, noted-ready, noted-again, passed, passed-ready}
 
 -- ---- notes that are the same

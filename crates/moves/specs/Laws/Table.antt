@@ -1,7 +1,7 @@
 -- A table of notes: what is stored in it stands there, and storing it again changes nothing. Assumes nothing.
-use mathlib.Core.Path.{_≡_, refl, sym, ap, _∙_, subst}
+use mathlib.Core.Path.{_≡_, refl, sym, ap, _∙_}
 use mathlib.Core.Logic.{_≢_}
-use Prim.Native.Nat.{ℕ, zero, suc, _+_, _≤_, _<_}
+use Prim.Native.Nat.{ℕ, _≤_, _<_}
 use native.Mathlib.Omega.{arith}
 use mathlib.Core.Bool.{Bool, true, false}
 use mathlib.Core.List.{List, [], _∷_, _++_}
@@ -10,7 +10,7 @@ use lib.Seq.{set-out, set-set, set-comm, getD-set-same}
 use lib.Dec.{leb, leb→le, nleb→lt}
 use Rattle.terms.specs.Laws.Answer.{never, test}
 use Rattle.stores.specs.Store.{cap, bump, advance, put, puts}
-use Rattle.stores.specs.Laws.Store.{bump-on, bump-full, put-past, puts-to, puts-is, puts-then}
+use Rattle.stores.specs.Laws.Store.{bump-on, bump-full, put-past, puts-to, puts-is}
 use Rattle.moves.specs.Notes.{Holds, Ready}
 
 bump-above : (k : ℕ) → k ≤ bump k
