@@ -10,7 +10,7 @@ use Rattle.terms.specs.Names.{code, names-count}
 use Rattle.terms.specs.Answer.{pick}
 use Rattle.tags.specs.declared.Tag.{Tag}
 use Rattle.tags.specs.Tag.{tagByte}
-use Rattle.layouts.specs.Layout.{Members, end, _▸_, Member, known, one, maybe, flag, choose, tagOf}
+use Rattle.layouts.specs.Layout.{Members, end, _▸_, known, one, maybe, flag, choose, tagOf}
 use Rattle.primitives.specs.declared.Primitive.{Primitive}
 use Rattle.primitives.specs.Primitive.{leafOf}
 use Rattle.structures.specs.declared.Row.{Row}
