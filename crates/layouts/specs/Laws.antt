@@ -4,10 +4,10 @@ pub mod Whole
 pub mod Fields
 pub mod Scan
 pub mod SheetScan
-pub mod Marks
 pub mod Places
 pub mod Each
 pub mod Way
 pub mod About
 pub mod Passed
+pub mod Passing
 pub mod Stand

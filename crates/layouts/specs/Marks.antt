@@ -1,6 +1,6 @@
 -- Reading by positions, what it notes in the table of places, and behind it. Assumes nothing.
--- Nobody has to believe this page: `Laws.Marks` proves that an accepted item notes its fields, `Laws.About` that a refused one notes whose fault
--- it is, and code is proved against its steps.
+-- Nobody has to believe this page: `Laws.Passed` proves that a reading notes the fields that it passes, `Laws.About` that a refused item notes
+-- whose fault it is, and code is proved against its steps.
 use Prim.Native.Nat.{ℕ, suc, zero, _+_, _-_}
 use mathlib.Core.Bool.{Bool, _&&_, _||_}
 use mathlib.Core.List.{List, [], _∷_}

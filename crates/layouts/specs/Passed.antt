@@ -7,10 +7,10 @@ use Rattle.terms.specs.Numbers.{no-item}
 use Rattle.terms.specs.Answer.{Res, good, fault, Got, pick, need, enough}
 use Rattle.heads.specs.Head.{forms, head, outermost, tlv}
 use Rattle.contents.specs.Leaves.{Leaf, boolean}
-use Rattle.layouts.specs.Layout.{Item, leaf, node, list, wrap, Members, end, _▸_, Member, known, one, maybe, flag, choose, tagOf, Values}
+use Rattle.layouts.specs.Layout.{Item, leaf, node, list, wrap, Members, end, _▸_, Member, known, one, maybe, flag, choose, tagOf}
 use Rattle.layouts.specs.Reading.{next, readLeaf, begins, many, read, readPart}
-use Rattle.layouts.specs.Whole.{sequence, accept}
-use Rattle.layouts.specs.Fields.{Entry, entry, listEntry, fields}
+use Rattle.layouts.specs.Whole.{sequence}
+use Rattle.layouts.specs.Fields.{Entry, entry, listEntry}
 
 -- the fields of what was read; where it is refused there are none
 abbrev pub ofRead : {A : Type 0} → Res A → (A → List Entry) → List Entry
@@ -48,10 +48,6 @@ unfoldable mutual
   passedPart (choose f l t g i j) k w b =
       passedLeaf l f k w b ++ (ofRead (readLeaf l w b) λ c. pick (t (c .content)) (passed i g k (c .rest) (next c)) (passed j g k (c .rest) (next c)))
 
--- of a record that is the whole input: all of them where it is accepted
-abbrev pub ofWhole : (r : Members) → Res (Values r) → List Entry → List Entry
-ofWhole r (good v) xs = fields r v
-ofWhole r (fault n p) xs = xs
-
+-- of a record that is the whole input: where it is accepted, all its fields (`Laws.Passing`)
 unfoldable pub recordPassed : ℕ → Members → List ℕ → List Entry
-recordPassed most r w = ofWhole r (accept most r w) (ofRead (outermost forms most sequence w 0) λ c. passedAll r 0 (c .content) (c .start))
+recordPassed most r w = ofRead (outermost forms most sequence w 0) λ c. passedAll r 0 (c .content) (c .start)

@@ -30,6 +30,7 @@ use Rattle.layouts.specs.About.{recordAbout}
 use Rattle.layouts.specs.Passed.{recordPassed}
 use Rattle.layouts.specs.declared.Whose.the-variants.{Nothing}
 use Rattle.layouts.specs.Laws.About as About
+use Rattle.layouts.specs.Laws.Passing as Passing
 use Rattle.layouts.specs.Laws.Stand as Stand
 use Rattle.layouts.specs.Laws.Reading.{clear, clears, spare}
 use Rattle.layouts.specs.Laws.Whole.{Wrote, Kept}
@@ -87,13 +88,26 @@ module _ (r : Members) (k : Clear r) where
   pub one-value : (u v : Values r) → Right r u → Right r v → recordOf r u ≡ recordOf r v → u ≡ v
   one-value u v a b e = good-inj (sym (right-is-accepted u a) ∙ ap (readRecord r) e ∙ right-is-accepted v b)
 
-  -- bytes past the first 65,536 change no answer: a program whose buffer holds so many answers for the whole input
-  pub later-bytes-change-nothing : (w z : List ℕ) → largest-record < length w → recordAnswer r (w ++ z) ≡ recordAnswer r w
-  later-bytes-change-nothing w z h = ap (answered (λ v. length (w ++ z))) (Whole.accept-more largest-record r w z h (omega arith)) ∙ go (readRecord r w) refl
-    where
-      go : (x : Res (Values r)) → readRecord r w ≡ x → answered (λ v. length (w ++ z)) x ≡ answered (λ v. length w) x
-      go (good v) e = let l : length w ≤ largest-record = Whole.accept-back largest-record r w v e .2 in absurd (omega arith)
-      go (fault n p) e = refl
+  -- bytes past the first 65,536 change no answer: a program whose buffer holds so many answers for the whole input,
+  module _ (w z : List ℕ) (h : largest-record < length w) where
+    more : readRecord r (w ++ z) ≡ readRecord r w
+    more = Whole.accept-more largest-record r w z h (omega arith)
+
+    pub later-bytes-change-nothing : recordAnswer r (w ++ z) ≡ recordAnswer r w
+    later-bytes-change-nothing = ap (answered (λ v. length (w ++ z))) more ∙ go (readRecord r w) refl
+      where
+        go : (x : Res (Values r)) → readRecord r w ≡ x → answered (λ v. length (w ++ z)) x ≡ answered (λ v. length w) x
+        go (good v) e = let l : length w ≤ largest-record = Whole.accept-back largest-record r w v e .2 in absurd (omega arith)
+        go (fault n p) e = refl
+
+    -- with a sheet,
+    pub later-bytes-change-no-sheet : (d : List ℕ) → (fillAnswer r (w ++ z) d ≡ fillAnswer r w d) × (fillAfter r (w ++ z) d ≡ fillAfter r w d)
+    unfolding fillAnswer fillAfter fillSheet
+    later-bytes-change-no-sheet d = (rw more, rw more)
+
+    -- and on a screen, which says what a refusal is about and shows the fields that were passed
+    pub later-bytes-change-no-screen : (recordAbout largest-record r (w ++ z) ≡ recordAbout largest-record r w) × (recordPassed largest-record r (w ++ z) ≡ recordPassed largest-record r w)
+    later-bytes-change-no-screen = (About.about-more largest-record r w z h (omega arith), Passing.passed-more largest-record r w z h (omega arith))
 
   -- "Each field handed out is that field's own bytes in the caller's record."
   pub fields-stand-there : (w : List ℕ) (v : Values r) → readRecord r w ≡ good v → All (Stands w) (fields r v)
@@ -138,9 +152,13 @@ module _ (r : Members) (k : Clear r) where
   pub accepted-is-about-nothing : (w : List ℕ) (v : Values r) → readRecord r w ≡ good v → recordAbout largest-record r w ≡ Nothing
   accepted-is-about-nothing w v e = About.accepted-about largest-record r w v e
 
-  -- and the fields that were passed, of a refused record those before the fault, are their own bytes in the caller's record
+  -- and the fields that were passed, of a refused record those before the fault, are their own bytes in the caller's record; of an
+  -- accepted one they are all its fields
   pub passed-stand-there : (w : List ℕ) → All (Stands w) (recordPassed largest-record r w)
   passed-stand-there w = Stand.passed-stand largest-record r w
+
+  pub accepted-passes-all : (w : List ℕ) (v : Values r) → readRecord r w ≡ good v → recordPassed largest-record r w ≡ fields r v
+  accepted-passes-all w v e = Passing.accepted-passed largest-record r w v e
 
   -- a part that is handed out is the field's own bytes, and lies where they lie in the caller's record; of a refused record, or where no such field
   -- is there, it has no bytes and lies at the record's start. `z` is a part of `s` by a contract: of an accessor, or of the matching entry

@@ -5,22 +5,19 @@ use mathlib.Core.List.{List, []}
 use lib.ListN.{length}
 use Rattle.terms.specs.Answer.{Res, good, fault, answered}
 use Rattle.terms.specs.Laws.Answer.{never}
-use Rattle.heads.specs.Scan.{outermostAt, closeAt}
-use Rattle.heads.specs.declared.Seen.{Seen}
-use Rattle.heads.specs.declared.Seen.the-variants.{Item as At, Refused as Bad}
+use Rattle.heads.specs.Scan.{closeAt}
 use Rattle.heads.specs.declared.Step.{Step}
 use Rattle.heads.specs.declared.Step.the-variants.{Next, Refused}
 use Rattle.layouts.specs.Layout.{Members, Values}
-use Rattle.layouts.specs.Scan.{recordScan, wholeScan}
+use Rattle.layouts.specs.Scan.{wholeScan}
 use Rattle.layouts.specs.Laws.Scan.{whole, whole-accept}
-use Rattle.layouts.specs.Whole.{sequence, accept, toldOutcome}
+use Rattle.layouts.specs.Whole.{accept, toldOutcome}
 use Rattle.layouts.specs.declared.Outcome.{Outcome}
 use Rattle.records.specs.Handing.{toldRecord, fieldsOf}
 use Rattle.layouts.specs.Places.{Placed}
-use Rattle.layouts.specs.Marks.{notes, afterSeen, marksAll, recordMarks}
-use Rattle.layouts.specs.Fields.{fields}
+use Rattle.layouts.specs.Marks.{notes, recordMarks}
 use Rattle.layouts.specs.Laws.Places.{blank, placed}
-use Rattle.layouts.specs.Laws.Marks.{accept-marks}
+use Rattle.layouts.specs.Laws.Passing.{accepted-placed}
 use Rattle.walks.specs.Walk.{recordWalk}
 use Rattle.entries.specs.Laws.{answers, tables}
 use Rattle.outcomes.specs.Outcome.{outcomeOf}
@@ -45,17 +42,11 @@ no-field most r s k n q h = go (accept most r s) (sym (whole-accept most r s) �
 
 -- where it is accepted the table has its fields
 each-field : (most : ℕ) (r : Members) (s : List ℕ) (k m : ℕ) → wholeScan most r s ≡ Next m → Placed k (fieldsOf r (accept most r s)) (recordMarks most r s 0 (length s) (blank k))
-unfolding wholeScan recordScan recordMarks
-each-field most r s k m h = go (outermostAt most sequence s 0 (length s)) refl
+each-field most r s k m h = go (accept most r s) refl (sym (whole-accept most r s) ∙ h)
   where
-    rest : (x : Res (Values r)) → accept most r s ≡ x → whole (length s) x ≡ Next m → (a z : ℕ) → outermostAt most sequence s 0 (length s) ≡ At a z → Placed k (fieldsOf r x) (marksAll r 0 s a z (blank k))
-    rest (good v) q g a z o = rw (accept-marks most r s v q a z o (blank k)) (placed k (fields r v))
-    rest (fault n p) q g a z o = never (cc)
-
-    go : (x : Seen) → outermostAt most sequence s 0 (length s) ≡ x
-        → Placed k (fieldsOf r (accept most r s)) (afterSeen (outermostAt most sequence s 0 (length s)) (blank k) λ a z. marksAll r 0 s a z (blank k))
-    go (At a z) o = rw o (rest (accept most r s) refl (sym (whole-accept most r s) ∙ h) a z o)
-    go (Bad n p) o = let e : Refused n p ≡ Next m = rw o at h in never (cc)
+    go : (x : Res (Values r)) → accept most r s ≡ x → whole (length s) x ≡ Next m → Placed k (fieldsOf r x) (recordMarks most r s 0 (length s) (blank k))
+    go (good v) e g = accepted-placed most r s v e k
+    go (fault n p) e g = never (cc)
 
 -- ---- a record, then nothing after it
 

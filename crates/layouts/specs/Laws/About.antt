@@ -3,7 +3,7 @@ use mathlib.Core.Path.{_≡_, refl, sym, _∙_}
 use Prim.Native.Nat.{ℕ, suc, zero, _+_, _-_, _≤_, _<_}
 use native.Mathlib.Omega.{arith}
 use mathlib.Core.Bool.{Bool, true, false, not}
-use mathlib.Core.List.{List, [], _∷_}
+use mathlib.Core.List.{List, [], _∷_, _++_}
 use lib.ListN.{length, getD, set, replicate, length-set, length-replicate}
 use lib.Seq.{take-length, slice, getD-set-same}
 use lib.Dec.{T, eqb}
@@ -17,6 +17,7 @@ use Rattle.terms.specs.Laws.Names.{name-code}
 use Rattle.heads.specs.Head.{forms, Cut, outermost}
 use Rattle.heads.specs.Scan.{seen, headAt, outermostAt}
 use Rattle.heads.specs.Laws.Head.{outermost-back}
+use Rattle.heads.specs.Laws.More.{moreCut, outermost-more}
 use Rattle.heads.specs.declared.Step.{Step}
 use Rattle.heads.specs.declared.Step.the-variants.{Next, Refused}
 use Rattle.contents.specs.Leaves.{Leaf, boolean, only}
@@ -32,6 +33,7 @@ use Rattle.layouts.specs.declared.Tally.the-variants.{Items, Refused as 
 use Rattle.layouts.specs.declared.Whose.{Whose}
 use Rattle.layouts.specs.declared.Whose.the-variants.{Nothing, Record, Field as field}
 use Rattle.layouts.specs.Laws.Scan.{by-window, Onward, step, whole, head-parts, leaf-parts, leaf-agree, begins-agree, enough-agree, close-agree, item-on, part-on, scan-read, scans-read, part-read, whole-accept}
+use Rattle.layouts.specs.Laws.Whole.{accept-more}
 use Rattle.layouts.specs.Laws.Places.{noted-size, noted-behind}
 
 -- ---- what stands behind the table
@@ -342,3 +344,13 @@ refused-about most r s n p e q = named (behindTable (recordMarks most r s 0 (len
 
     fresh : Fresh d
     fresh = let l = length-replicate {A = ℕ} (table-size + 1) 0 in (omega arith, refl)
+
+-- bytes after the first that no record has room for change nothing
+pub about-more : (most : ℕ) (r : Members) (w z : List ℕ) → most < length w → 4 ≤ length w → recordAbout most r (w ++ z) ≡ recordAbout most r w
+unfolding recordAbout
+about-more most r w z m h = rw (accept-more most r w z m h, outermost-more most sequence w z 0 m h) (go (accept most r w) (outermost forms most sequence w 0))
+  where
+    go : (a : Res (Values r)) (x : Res Cut)
+        → (unread a (unread (moreCut z x) Record λ c. aboutAll r Record (c .content) (c .start)) λ v. Nothing) ≡ (unread a (unread x Record λ c. aboutAll r Record (c .content) (c .start)) λ v. Nothing)
+    go a (good c) = refl
+    go a (fault n p) = refl

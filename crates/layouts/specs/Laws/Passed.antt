@@ -1,9 +1,9 @@
 -- A record that is read notes the fields that it passes, also where it is refused: `marks` agrees with `passed`, for every layout. Assumes nothing.
-use mathlib.Core.Path.{_≡_, refl, _∙_}
+use mathlib.Core.Path.{_≡_, refl, sym, _∙_}
 use Prim.Native.Nat.{ℕ, suc, zero, _+_, _-_, _≤_, _<_}
 use native.Mathlib.Omega.{arith}
 use mathlib.Core.Bool.{Bool, true, false, _&&_}
-use mathlib.Core.List.{List, [], _∷_}
+use mathlib.Core.List.{List, [], _∷_, _++_}
 use lib.ListN.{length, getD, set, take, length-set}
 use lib.Seq.{take-length, slice, getD-take, length-take-le, take-set-le, take-set-lt}
 use lib.Dec.{eqb, ltb}
@@ -12,27 +12,25 @@ use Rattle.terms.specs.declared.Field.{Field}
 use Rattle.terms.specs.Names.{code}
 use Rattle.terms.specs.Numbers.{too-many-items}
 use Rattle.terms.specs.Answer.{Res, good, fault, Got, pick, bind, need, enough}
-use Rattle.terms.specs.Laws.Answer.{test, is-true, is-false, by-bind}
+use Rattle.terms.specs.Laws.Answer.{test, is-true, is-false}
 use Rattle.terms.specs.Laws.Names.{code-below}
 use Rattle.heads.specs.Head.{forms, Cut, head, outermost, tlv}
 use Rattle.heads.specs.Scan.{seen, headAt, outermostAt, closeAt}
-use Rattle.heads.specs.Laws.Head.{outermost-back}
-use Rattle.heads.specs.declared.Seen.the-variants.{Item as At}
+use Rattle.heads.specs.Laws.Head.{head-back, length-tlv, outermost-back}
 use Rattle.heads.specs.declared.Step.{Step}
 use Rattle.heads.specs.declared.Step.the-variants.{Next, Refused}
 use Rattle.contents.specs.Leaves.{Leaf, boolean}
-use Rattle.layouts.specs.Layout.{Item, leaf, node, list, wrap, Members, end, _▸_, Member, known, one, maybe, flag, choose, tagOf, Values}
+use Rattle.layouts.specs.Layout.{Item, leaf, node, list, wrap, Members, end, _▸_, Member, known, one, maybe, flag, choose, tagOf}
 use Rattle.layouts.specs.Reading.{next, readLeaf, begins, many, readOption, readFlag, readEither, read, readPart}
-use Rattle.layouts.specs.Whole.{sequence, recordAt, accept}
+use Rattle.layouts.specs.Whole.{sequence}
 use Rattle.layouts.specs.Scan.{scan, scans}
-use Rattle.layouts.specs.Fields.{Entry, listEntry, fields}
-use Rattle.layouts.specs.Places.{table-size, wanted-at, wanted, slot, Placed}
+use Rattle.layouts.specs.Fields.{Entry, listEntry}
+use Rattle.layouts.specs.Places.{table-size, wanted-at, wanted, slot, under, Placed}
 use Rattle.layouts.specs.Marks.{free, filled, noted, notes, unblamed, blamed, blaming, afterSeen, afterStep, afterTally, thenTally, tally, manyMarks, leafMarks, marks, marksAll, marksPart, recordMarks}
-use Rattle.layouts.specs.Passed.{ofRead, passedLeaf, passedMany, passed, passedAll, passedPart, ofWhole, recordPassed}
+use Rattle.layouts.specs.Passed.{ofRead, passedLeaf, passedMany, passed, passedAll, passedPart, recordPassed}
 use Rattle.layouts.specs.declared.Tally.{Tally}
 use Rattle.layouts.specs.declared.Tally.the-variants.{Items, Refused as Uncounted}
-use Rattle.layouts.specs.Laws.Scan.{by-window, Onward, step, leaf-parts, leaf-agree, begins-agree, enough-agree, item-on, part-on, scan-read, part-read}
-use Rattle.layouts.specs.Laws.Marks.{notes-append, head-place, accept-marks}
+use Rattle.layouts.specs.Laws.Scan.{by-window, Onward, step, head-parts, leaf-parts, leaf-agree, begins-agree, enough-agree, item-on, part-on, scan-read, part-read}
 use Rattle.layouts.specs.Laws.Places.{blank, placed}
 use Rattle.layouts.specs.Laws.About.{not-enough}
 
@@ -79,10 +77,11 @@ front-after : (x : Step) (d d′ : List ℕ) (m : ℕ → List ℕ) → Front d 
 front-after (Next q) d d′ m h g = g q
 front-after (Refused n p) d d′ m h g = h
 
-pub front-notes : (xs : List Entry) (d d′ : List ℕ) → Front d d′ → Front (notes xs d) (notes xs d′)
+-- to note two lists in a row is to note the second after the first
+notes-append : (xs ys : List Entry) (d : List ℕ) → notes (xs ++ ys) d ≡ notes ys (notes xs d)
 unfolding notes
-front-notes [] d d′ h = h
-front-notes (x ∷ xs) d d′ h = front-notes xs _ _ (front-noted (x .name) (x .index) (x .place) (x .place + length (x .bytes)) (x .items) d d′ h)
+notes-append [] ys d = refl
+notes-append (x ∷ xs) ys d = notes-append xs ys (noted (x .name) (x .index) (x .place) (x .place + length (x .bytes)) (x .items) d)
 
 -- a field is noted up to its end
 notes-to : (f : Field) (k b n : ℕ) (x : List ℕ) (xs : List Entry) (z : ℕ) (d : List ℕ) → z ≡ b + length x → notes (listEntry f k b x n ∷ xs) d ≡ notes xs (noted f k b z n d)
@@ -138,6 +137,15 @@ passed-none f g zero k b = refl
 passed-none f g (suc n) k b = refl
 
 module _ (s : List ℕ) where
+  -- what stands behind a head: a window of the slice, where it starts and where the item ends
+  head-place : (t p e : ℕ) → p ≤ e → e ≤ length s → (c : Cut) → head forms t (slice p e s) p ≡ good c
+      → (c .content ≡ slice (c .start) (next c) s) × (c .start ≤ next c) × (next c ≤ length s) × (next c ≡ p + length (tlv t (c .content)))
+  head-place t p e pe es c h =
+      let b = head-parts s t p e pe es c h in
+      let k = head-back t (slice p e s) p c h in
+      let n = length-tlv t (c .content) in
+      (b .0, omega arith, omega arith, omega arith)
+
   leaf-front : (l : Leaf) (f : Field) (k p e : ℕ) → p ≤ e → e ≤ length s → (d d′ : List ℕ) → Front d d′ → Front (leafMarks l f k s p e d) (notes (passedLeaf l f k (slice p e s) p) d′)
   unfolding leafMarks passedLeaf notes
   leaf-front l f k p e pe es d d′ o = rw (leaf-agree s l p e pe es) (front-seen (readLeaf l (slice p e s) p) d d′ _ _ _ (front-blamed f d d′ o) λ c h. front-noted f k (c .start) (next c) 0 d d′ o)
@@ -178,12 +186,12 @@ module _ (s : List ℕ) where
     item-front (leaf l) f k p e pe es d d′ o = leaf-front l f k p e pe es d d′ o
     item-front (node t r) f k p e pe es d d′ o =
         front-seen (head forms t (slice p e s) p) d d′ _ _ _ (front-blamed f d d′ o) λ c h.
-        let b = head-place s t p e pe es c h in
+        let b = head-place t p e pe es c h in
         front-blaming (scans r s (c .start) (next c)) f _ _
-        (rw (notes-to f k p 0 (tlv t (c .content)) _ (next c) d′ (b .4)) (rw (← b .0) at (all-front r k (c .start) (next c) (b .1) (b .2) (noted f k p (next c) 0 d) (noted f k p (next c) 0 d′) (front-noted f k p (next c) 0 d d′ o))))
+        (rw (notes-to f k p 0 (tlv t (c .content)) _ (next c) d′ (b .3)) (rw (← b .0) at (all-front r k (c .start) (next c) (b .1) (b .2) (noted f k p (next c) 0 d) (noted f k p (next c) 0 d′) (front-noted f k p (next c) 0 d d′ o))))
     item-front (list t k′ n g i) f k p e pe es d d′ o =
         front-seen (head forms t (slice p e s) p) d d′ _ _ _ (front-blamed f d d′ o) λ c h.
-        let b = head-place s t p e pe es c h in
+        let b = head-place t p e pe es c h in
         let m = many-front (λ q. scan i s q (next c)) (λ j q y. marks i g j s q (next c) y) (λ y q. read i y q) (λ j y q. passed i g j y q) (next c) (b .2)
         (λ q a. scan-read s i q (next c) a (b .2))
         (λ q a. item-on s i q (next c) a (b .2))
@@ -195,12 +203,12 @@ module _ (s : List ℕ) where
         (test (enough k′ (c .content))
         (λ u. let x = rw (← b .0) at m in
         rw (is-true (enough k′ (c .content)) u)
-        (front-list y _ f z _ (λ j. noted f k p (next c) j z) (λ vs. listEntry f k p (tlv t (c .content)) (length vs) ∷ []) (x .0) (x .1) λ vs. rw (notes-to f k p (length vs) (tlv t (c .content)) [] (next c) _ (b .4)) (front-noted f k p (next c) (length vs) z _ (x .1))))
+        (front-list y _ f z _ (λ j. noted f k p (next c) j z) (λ vs. listEntry f k p (tlv t (c .content)) (length vs) ∷ []) (x .0) (x .1) λ vs. rw (notes-to f k p (length vs) (tlv t (c .content)) [] (next c) _ (b .3)) (front-noted f k p (next c) (length vs) z _ (x .1))))
         (λ u. let v = not-enough k′ (c .content) u in
         rw (is-false (enough k′ (c .content)) u, v, passed-none (λ y q. read i y q) (λ j y q. passed i g j y q) n 0 (c .start)) (front-blamed f d d′ o)))
     item-front (wrap t i) f k p e pe es d d′ o =
         front-seen (head forms t (slice p e s) p) d d′ _ _ _ (front-blamed f d d′ o) λ c h.
-        let b = head-place s t p e pe es c h in
+        let b = head-place t p e pe es c h in
         let m = rw (← b .0) at (item-front i f k (c .start) (next c) (b .1) (b .2) d d′ o) in
         front-after (scan i s (c .start) (next c)) _ _ _ m λ q. front-blaming (closeAt q (next c)) f _ _ m
 
@@ -229,16 +237,9 @@ module _ (s : List ℕ) where
 -- ---- a whole record
 
 module _ (most : ℕ) (r : Members) (s : List ℕ) where
-  record-notes : (v : Values r) → accept most r s ≡ good v → (d : List ℕ) → recordMarks most r s 0 (length s) d ≡ notes (fields r v) d
-  unfolding recordMarks accept recordAt outermostAt
-  record-notes v h d =
-      by-bind _ _ _ h λ x e₁ e₂. by-bind _ _ _ e₁ λ c e₃ e₄.
-      let o : outermostAt most sequence s 0 (length s) ≡ At (c .start) (next c) = rw (take-length s, e₃) in
-      rw o (accept-marks most r s v h (c .start) (next c) o d)
-
-  refused-front : (d d′ : List ℕ) → Front d d′ → Front (recordMarks most r s 0 (length s) d) (notes (ofRead (outermost forms most sequence s 0) λ c. passedAll r 0 (c .content) (c .start)) d′)
-  unfolding recordMarks outermostAt
-  refused-front d d′ o =
+  record-front : (d d′ : List ℕ) → Front d d′ → Front (recordMarks most r s 0 (length s) d) (notes (recordPassed most r s) d′)
+  unfolding recordMarks outermostAt recordPassed
+  record-front d d′ o =
       let w : slice 0 (length s) s ≡ s = take-length s in
       rw w
       (front-seen (outermost forms most sequence s 0) d d′ _ _ _ o λ c h.
@@ -247,10 +248,15 @@ module _ (most : ℕ) (r : Members) (s : List ℕ) where
 
   -- the table has the fields that are passed
   pub passed-placed : (k : ℕ) (d : List ℕ) → Front d (blank k) → Placed k (recordPassed most r s) (take table-size (recordMarks most r s 0 (length s) d))
-  unfolding recordPassed
-  passed-placed k d o = go (accept most r s) refl
-    where
-      go : (x : Res (Values r)) → accept most r s ≡ x
-          → Placed k (ofWhole r x (ofRead (outermost forms most sequence s 0) λ c. passedAll r 0 (c .content) (c .start))) (take table-size (recordMarks most r s 0 (length s) d))
-      go (good v) h = rw (record-notes v h d, front-notes (fields r v) d (blank k) o .1) (placed k (fields r v))
-      go (fault n p) h = rw (refused-front d (blank k) o .1) (placed k _)
+  passed-placed k d o = rw (record-front d (blank k) o .1) (placed k (recordPassed most r s))
+
+-- what the table's front has, the table has
+pub placed-whole : (k : ℕ) (xs : List Entry) (d : List ℕ) → Placed k xs (take table-size d) → Placed k xs d
+unfolding wanted under slot
+placed-whole k xs d (w, h) = (
+  sym (getD-take table-size d wanted-at 0 (omega arith)) ∙ w,
+  λ f.
+      let c = code-below f in
+      let at : (n : ℕ) → n < table-size → getD (take table-size d) n 0 ≡ getD d n 0 = λ n b. getD-take table-size d n 0 b in
+      rw (← at (slot f) (omega arith), ← at (slot f + 1) (omega arith), ← at (slot f + 2) (omega arith), ← at (slot f + 3) (omega arith)) (h f),
+)

@@ -1,5 +1,5 @@
 -- Each field that is passed stands at its place in the record, also where it is refused: for every layout. Assumes nothing.
-use mathlib.Core.Path.{_≡_, refl, sym, ap, _∙_, subst}
+use mathlib.Core.Path.{_≡_, refl, sym, ap, _∙_}
 use Prim.Native.Nat.{ℕ, suc, zero, _+_}
 use mathlib.Core.Bool.{Bool, true, false}
 use mathlib.Core.List.{List, [], _∷_, _++_, append-nil}
@@ -10,14 +10,13 @@ use Rattle.terms.specs.Answer.{Res, good, fault, Got, pick, need, enough}
 use Rattle.heads.specs.Head.{forms, Cut, head, outermost, tlv, octets, before}
 use Rattle.heads.specs.Laws.Head.{head-back, outermost-back}
 use Rattle.contents.specs.Leaves.{Leaf, boolean}
-use Rattle.layouts.specs.Layout.{Item, leaf, node, list, wrap, Members, end, _▸_, Member, known, one, maybe, flag, choose, tagOf, Values, All, Ok, encodeLeaf, encode, encodePart}
+use Rattle.layouts.specs.Layout.{Item, leaf, node, list, wrap, Members, end, _▸_, Member, known, one, maybe, flag, choose, tagOf, All, Ok, encodeLeaf, encode, encodePart}
 use Rattle.layouts.specs.Reading.{next, readLeaf, begins, many, read, readPart}
-use Rattle.layouts.specs.Whole.{sequence, accept}
-use Rattle.layouts.specs.Fields.{Entry, listEntry, startOf, fields, Stands}
-use Rattle.layouts.specs.Passed.{ofRead, passedLeaf, passedMany, passed, passedAll, passedPart, ofWhole, recordPassed}
+use Rattle.layouts.specs.Whole.{sequence}
+use Rattle.layouts.specs.Fields.{Entry, listEntry, startOf, Stands}
+use Rattle.layouts.specs.Passed.{ofRead, passedLeaf, passedMany, passed, passedAll, passedPart, recordPassed}
 use Rattle.layouts.specs.Laws.Reading.{Backward, leaf-back, leaf-next, backward, backwardPart}
-use Rattle.layouts.specs.Laws.Fields.{all-append, inside, past, leaf-stands, fields-stand}
-use Rattle.layouts.specs.Laws.Whole.{accept-back}
+use Rattle.layouts.specs.Laws.Fields.{all-append, inside, past, leaf-stands}
 
 module _ (s : List ℕ) where
   -- bytes that stand at `b`
@@ -110,10 +109,6 @@ module _ (s : List ℕ) where
 
 pub passed-stand : (most : ℕ) (r : Members) (s : List ℕ) → All (Stands s) (recordPassed most r s)
 unfolding recordPassed
-passed-stand most r s = go (accept most r s) refl
-  where
-    go : (x : Res (Values r)) → accept most r s ≡ x → All (Stands s) (ofWhole r x (ofRead (outermost forms most sequence s 0) λ c. passedAll r 0 (c .content) (c .start)))
-    go (good v) h = subst (λ (w : List ℕ). All (Stands w) (fields r v)) (sym (accept-back most r s v h .0)) (fields-stand r v)
-    go (fault n p) h =
-        of-read s (outermost forms most sequence s 0) _ λ c e.
-        of-all s r 0 (c .content) (c .start) (opened s sequence s 0 ([], [], sym (append-nil s), refl) c (outermost-back most sequence s 0 c e .0) .1)
+passed-stand most r s =
+    of-read s (outermost forms most sequence s 0) _ λ c e.
+    of-all s r 0 (c .content) (c .start) (opened s sequence s 0 ([], [], sym (append-nil s), refl) c (outermost-back most sequence s 0 c e .0) .1)
