@@ -4,6 +4,7 @@ use pieces::Moved;
 use rows::MEMBERS;
 use rows::Member;
 use sides::Side;
+use sources::Opened;
 use structures::Build;
 use structures::Row;
 use structures::Structure;
@@ -24,18 +25,18 @@ ghost use Rattle.moves.specs.Notes.{noteBy, noteOf, notes, notesAll, ins
 // How many notes there is room for: a record of the rules has at most 204 items that hold others.
 const SLOTS: usize = 256;
 
-// Where what follows starts in the source and in the destination, and where its notes start.
-struct Reached {
-    next: usize,
-    to: usize,
+// Where something starts: in the source, in the destination, and among the notes.
+struct Spot {
+    at: usize,
+    pos: usize,
     slot: usize,
 }
 
-// The same, with the number of a list's items.
+// Where what follows an item's content starts, and the number of a list's items.
 struct Body {
-    next: usize,
+    at: usize,
     items: usize,
-    to: usize,
+    pos: usize,
     slot: usize,
 }
 
@@ -55,24 +56,29 @@ pub fn item(
 {
     let mut sizes = [0usize; SLOTS];
     let mut none = [0u8; 0];
-    let n = noted(s, from, to, x, at, end, &mut none, 0, &mut sizes, 0, false);
-    let size = n.to;
+    let first = Spot {
+        at,
+        pos: 0,
+        slot: 0,
+    };
+    let n = noted(s, from, to, x, first, end, &mut none, &mut sizes, false);
+    let size = n.pos;
     if most < size {
         return Moved {
-            next: n.next,
+            next: n.at,
             to: size,
         };
     }
     if dst.len() < size {
         return Moved {
-            next: n.next,
+            next: n.at,
             to: size,
         };
     }
-    let m = noted(s, from, to, x, at, end, dst, 0, &mut sizes, 0, true);
+    let m = noted(s, from, to, x, first, end, dst, &mut sizes, true);
     Moved {
-        next: m.next,
-        to: m.to,
+        next: m.at,
+        to: m.pos,
     }
 }
 
@@ -131,79 +137,35 @@ fn noted(
     from: Side,
     to: Side,
     x: Structure,
-    at: usize,
+    here: Spot,
     end: usize,
     dst: &mut [u8],
-    pos: usize,
     sizes: &mut [usize],
-    slot: usize,
     known: bool,
-) -> Reached
-    requires { ⌜ Ready known (notes from to (layoutOf x) (now s) at end) (now sizes) slot ⌝ }
-    ensures { λ r. ⌜ (r .next, r .to, now (dst .exit)) ≡ wrote (moveItem from to (layoutOf x) (now (s .entry)) at end) (now (dst .entry)) pos ⌝ }
-    ensures { λ r. ⌜ (r .slot, now (sizes .exit)) ≡ puts (notes from to (layoutOf x) (now (s .entry)) at end) (now (sizes .entry)) slot ⌝ }
+) -> Spot
+    requires { ⌜ Ready known (notes from to (layoutOf x) (now s) (here .at) end) (now sizes) (here .slot) ⌝ }
+    ensures { λ r. ⌜ (r .at, r .pos, now (dst .exit)) ≡ wrote (moveItem from to (layoutOf x) (now (s .entry)) (here .at) end) (now (dst .entry)) (here .pos) ⌝ }
+    ensures { λ r. ⌜ (r .slot, now (sizes .exit)) ≡ puts (notes from to (layoutOf x) (now (s .entry)) (here .at) end) (now (sizes .entry)) (here .slot) ⌝ }
 {
     let b = structures::build_of(x);
     match b {
         Build::Leaf(primitive) => {
-            let m = pieces::leaf(s, from, to, primitive, at, end, dst, pos);
-            Reached {
-                next: m.next,
-                to: m.to,
-                slot,
+            let m = pieces::leaf(s, from, to, primitive, here.at, end, dst, here.pos);
+            Spot {
+                at: m.next,
+                pos: m.to,
+                slot: here.slot,
             }
         }
-        Build::Node(t, _) => held(
-            s,
-            from,
-            to,
-            x,
-            t,
-            false,
-            at,
-            end,
-            dst,
-            pos,
-            sizes,
-            slot,
-            known,
-        ),
+        Build::Node(t, _) => held(s, from, to, x, t, false, here, end, dst, sizes, known),
         Build::List {
             tag,
             empty: _,
             most: _,
             name: _,
             each: _,
-        } => held(
-            s,
-            from,
-            to,
-            x,
-            tag,
-            true,
-            at,
-            end,
-            dst,
-            pos,
-            sizes,
-            slot,
-            known,
-        ),
-        Build::Wrap(t, _) => held(
-            s,
-            from,
-            to,
-            x,
-            t,
-            false,
-            at,
-            end,
-            dst,
-            pos,
-            sizes,
-            slot,
-            known,
-        ),
+        } => held(s, from, to, x, tag, true, here, end, dst, sizes, known),
+        Build::Wrap(t, _) => held(s, from, to, x, t, false, here, end, dst, sizes, known),
     }
 }
 
@@ -215,74 +177,32 @@ fn held(
     x: Structure,
     t: Tag,
     listed: bool,
-    at: usize,
+    here: Spot,
     end: usize,
     dst: &mut [u8],
-    pos: usize,
     sizes: &mut [usize],
-    slot: usize,
     known: bool,
-) -> Reached
-    requires { ⌜ Ready known (heldNotes from to (layoutOf x) (tagByte t) listed (now s) at end) (now sizes) slot ⌝ }
-    ensures { λ r. ⌜ (r .next, r .to, now (dst .exit)) ≡ wrote (heldMove from to (layoutOf x) (tagByte t) listed (now (s .entry)) at end) (now (dst .entry)) pos ⌝ }
-    ensures { λ r. ⌜ (r .slot, now (sizes .exit)) ≡ puts (heldNotes from to (layoutOf x) (tagByte t) listed (now (s .entry)) at end) (now (sizes .entry)) slot ⌝ }
+) -> Spot
+    requires { ⌜ Ready known (heldNotes from to (layoutOf x) (tagByte t) listed (now s) (here .at) end) (now sizes) (here .slot) ⌝ }
+    ensures { λ r. ⌜ (r .at, r .pos, now (dst .exit)) ≡ wrote (heldMove from to (layoutOf x) (tagByte t) listed (now (s .entry)) (here .at) end) (now (dst .entry)) (here .pos) ⌝ }
+    ensures { λ r. ⌜ (r .slot, now (sizes .exit)) ≡ puts (heldNotes from to (layoutOf x) (tagByte t) listed (now (s .entry)) (here .at) end) (now (sizes .entry)) (here .slot) ⌝ }
 {
-    let h = sources::open(s, from, t, listed, at, end);
+    let pos = here.pos;
+    let slot = here.slot;
+    let h = sources::open(s, from, t, listed, here.at, end);
     if is_bare(to, listed) {
-        let b = content(
-            s,
-            from,
-            to,
-            x,
-            h.count,
-            h.start,
-            h.end,
-            dst,
-            pos,
-            sizes,
-            slot,
-            known,
-        );
-        return Reached {
-            next: sources::after(from, h.end, b.next),
-            to: b.to,
+        let b = content(s, from, to, x, h, dst, pos, sizes, slot, known);
+        return Spot {
+            at: sources::after(from, h.end, b.at),
+            pos: b.pos,
             slot: b.slot,
         };
     }
     if is_noted(known, slot, sizes.len()) {
         let n = note_at(sizes, slot);
-        return stored(
-            s,
-            from,
-            to,
-            x,
-            t,
-            listed,
-            h.count,
-            h.start,
-            h.end,
-            dst,
-            pos,
-            n,
-            sizes,
-            slot,
-        );
+        return stored(s, from, to, x, t, listed, h, dst, pos, n, sizes, slot);
     }
-    measured(
-        s,
-        from,
-        to,
-        x,
-        t,
-        listed,
-        h.count,
-        h.start,
-        h.end,
-        dst,
-        pos,
-        sizes,
-        slot,
-    )
+    measured(s, from, to, x, t, listed, h, dst, pos, sizes, slot)
 }
 
 // An item that holds others, by its note `n`: what stands before it, then what stands in it.
@@ -293,37 +213,22 @@ fn stored(
     x: Structure,
     t: Tag,
     listed: bool,
-    count: usize,
-    at: usize,
-    end: usize,
+    h: Opened,
     dst: &mut [u8],
     pos: usize,
     n: usize,
     sizes: &mut [usize],
     slot: usize,
-) -> Reached
-    requires { ⌜ (n ≡ noteOf to (inside from to (layoutOf x) (now s) count at end)) × Ready true (frontNotes from to (layoutOf x) (now s) count at end) (now sizes) slot ⌝ }
-    ensures { λ r. ⌜ (r .next, r .to, now (dst .exit)) ≡ wrote (closing from to (tagByte t) listed end (inside from to (layoutOf x) (now (s .entry)) count at end)) (now (dst .entry)) pos ⌝ }
-    ensures { λ r. ⌜ (r .slot, now (sizes .exit)) ≡ puts (frontNotes from to (layoutOf x) (now (s .entry)) count at end) (now (sizes .entry)) slot ⌝ }
+) -> Spot
+    requires { ⌜ (n ≡ noteOf to (inside from to (layoutOf x) (now s) (h .count) (h .start) (h .end))) × Ready true (frontNotes from to (layoutOf x) (now s) (h .count) (h .start) (h .end)) (now sizes) slot ⌝ }
+    ensures { λ r. ⌜ (r .at, r .pos, now (dst .exit)) ≡ wrote (closing from to (tagByte t) listed (h .end) (inside from to (layoutOf x) (now (s .entry)) (h .count) (h .start) (h .end))) (now (dst .entry)) pos ⌝ }
+    ensures { λ r. ⌜ (r .slot, now (sizes .exit)) ≡ puts (frontNotes from to (layoutOf x) (now (s .entry)) (h .count) (h .start) (h .end)) (now (sizes .entry)) slot ⌝ }
 {
     let o = fronts::front(dst, pos, to, t, listed, n, n);
-    let b = content(
-        s,
-        from,
-        to,
-        x,
-        count,
-        at,
-        end,
-        dst,
-        o,
-        sizes,
-        stores::add(slot, 1),
-        true,
-    );
-    Reached {
-        next: sources::after(from, end, b.next),
-        to: b.to,
+    let b = content(s, from, to, x, h, dst, o, sizes, stores::add(slot, 1), true);
+    Spot {
+        at: sources::after(from, h.end, b.at),
+        pos: b.pos,
         slot: b.slot,
     }
 }
@@ -336,17 +241,15 @@ fn measured(
     x: Structure,
     t: Tag,
     listed: bool,
-    count: usize,
-    at: usize,
-    end: usize,
+    h: Opened,
     dst: &mut [u8],
     pos: usize,
     sizes: &mut [usize],
     slot: usize,
-) -> Reached
+) -> Spot
     requires { ⌜ length (now sizes) ≤ cap ⌝ }
-    ensures { λ r. ⌜ (r .next, r .to, now (dst .exit)) ≡ wrote (closing from to (tagByte t) listed end (inside from to (layoutOf x) (now (s .entry)) count at end)) (now (dst .entry)) pos ⌝ }
-    ensures { λ r. ⌜ (r .slot, now (sizes .exit)) ≡ puts (frontNotes from to (layoutOf x) (now (s .entry)) count at end) (now (sizes .entry)) slot ⌝ }
+    ensures { λ r. ⌜ (r .at, r .pos, now (dst .exit)) ≡ wrote (closing from to (tagByte t) listed (h .end) (inside from to (layoutOf x) (now (s .entry)) (h .count) (h .start) (h .end))) (now (dst .entry)) pos ⌝ }
+    ensures { λ r. ⌜ (r .slot, now (sizes .exit)) ≡ puts (frontNotes from to (layoutOf x) (now (s .entry)) (h .count) (h .start) (h .end)) (now (sizes .entry)) slot ⌝ }
 {
     let mut none = [0u8; 0];
     let b = content(
@@ -354,41 +257,24 @@ fn measured(
         from,
         to,
         x,
-        count,
-        at,
-        end,
+        h,
         &mut none,
         0,
         sizes,
         stores::add(slot, 1),
         false,
     );
-    let n = note_of(to, b.items, b.to);
+    let n = note_of(to, b.items, b.pos);
     note(sizes, slot, n);
     if dst.len() <= pos {
         let o = fronts::front(dst, pos, to, t, listed, n, n);
-        return Reached {
-            next: sources::after(from, end, b.next),
-            to: stores::add(o, b.to),
+        return Spot {
+            at: sources::after(from, h.end, b.at),
+            pos: stores::add(o, b.pos),
             slot: b.slot,
         };
     }
-    stored(
-        s,
-        from,
-        to,
-        x,
-        t,
-        listed,
-        count,
-        at,
-        end,
-        dst,
-        pos,
-        n,
-        sizes,
-        slot,
-    )
+    stored(s, from, to, x, t, listed, h, dst, pos, n, sizes, slot)
 }
 
 // What stands in an item; nothing in a primitive one.
@@ -397,33 +283,36 @@ fn content(
     from: Side,
     to: Side,
     x: Structure,
-    count: usize,
-    at: usize,
-    end: usize,
+    h: Opened,
     dst: &mut [u8],
     pos: usize,
     sizes: &mut [usize],
     slot: usize,
     known: bool,
 ) -> Body
-    requires { ⌜ Ready known (insideNotes from to (layoutOf x) (now s) count at end) (now sizes) slot ⌝ }
-    ensures { λ r. ⌜ (r .next, r .items, r .to, now (dst .exit)) ≡ wroteBody (inside from to (layoutOf x) (now (s .entry)) count at end) (now (dst .entry)) pos ⌝ }
-    ensures { λ r. ⌜ (r .slot, now (sizes .exit)) ≡ puts (insideNotes from to (layoutOf x) (now (s .entry)) count at end) (now (sizes .entry)) slot ⌝ }
+    requires { ⌜ Ready known (insideNotes from to (layoutOf x) (now s) (h .count) (h .start) (h .end)) (now sizes) slot ⌝ }
+    ensures { λ r. ⌜ (r .at, r .items, r .pos, now (dst .exit)) ≡ wroteBody (inside from to (layoutOf x) (now (s .entry)) (h .count) (h .start) (h .end)) (now (dst .entry)) pos ⌝ }
+    ensures { λ r. ⌜ (r .slot, now (sizes .exit)) ≡ puts (insideNotes from to (layoutOf x) (now (s .entry)) (h .count) (h .start) (h .end)) (now (sizes .entry)) slot ⌝ }
 {
+    let here = Spot {
+        at: h.start,
+        pos,
+        slot,
+    };
     let b = structures::build_of(x);
     match b {
         Build::Leaf(_) => Body {
-            next: at,
+            at: h.start,
             items: 0,
-            to: pos,
+            pos,
             slot,
         },
         Build::Node(_, members) => {
-            let m = row(s, from, to, members, at, end, dst, pos, sizes, slot, known);
+            let m = row(s, from, to, members, here, h.end, dst, sizes, known);
             Body {
-                next: m.next,
+                at: m.at,
                 items: 0,
-                to: m.to,
+                pos: m.pos,
                 slot: m.slot,
             }
         }
@@ -439,21 +328,19 @@ fn content(
             to,
             each,
             most,
-            count,
-            at,
-            end,
+            h.count,
+            here,
+            h.end,
             dst,
-            pos,
             sizes,
-            slot,
             known,
         ),
         Build::Wrap(_, y) => {
-            let m = noted(s, from, to, y, at, end, dst, pos, sizes, slot, known);
+            let m = noted(s, from, to, y, here, h.end, dst, sizes, known);
             Body {
-                next: m.next,
+                at: m.at,
                 items: 0,
-                to: m.to,
+                pos: m.pos,
                 slot: m.slot,
             }
         }
@@ -466,35 +353,24 @@ fn row(
     from: Side,
     to: Side,
     x: Row,
-    at: usize,
+    first: Spot,
     end: usize,
     dst: &mut [u8],
-    pos: usize,
     sizes: &mut [usize],
-    slot: usize,
     known: bool,
-) -> Reached
-    requires { ⌜ Ready known (notesAll from to (rowOf x) (now s) at end) (now sizes) slot ⌝ }
-    ensures { λ r. ⌜ (r .next, r .to, now (dst .exit)) ≡ wrote (moves from to (rowOf x) (now (s .entry)) at end) (now (dst .entry)) pos ⌝ }
-    ensures { λ r. ⌜ (r .slot, now (sizes .exit)) ≡ puts (notesAll from to (rowOf x) (now (s .entry)) at end) (now (sizes .entry)) slot ⌝ }
+) -> Spot
+    requires { ⌜ Ready known (notesAll from to (rowOf x) (now s) (first .at) end) (now sizes) (first .slot) ⌝ }
+    ensures { λ r. ⌜ (r .at, r .pos, now (dst .exit)) ≡ wrote (moves from to (rowOf x) (now (s .entry)) (first .at) end) (now (dst .entry)) (first .pos) ⌝ }
+    ensures { λ r. ⌜ (r .slot, now (sizes .exit)) ≡ puts (notesAll from to (rowOf x) (now (s .entry)) (first .at) end) (now (sizes .entry)) (first .slot) ⌝ }
 {
     let members = rows::members_of(x);
-    let mut p = at;
-    let mut o = pos;
-    let mut n = slot;
+    let mut here = first;
     let mut k: usize = 0;
     while k < MEMBERS {
-        let m = member(s, from, to, members[k], p, end, dst, o, sizes, n, known);
-        p = m.next;
-        o = m.to;
-        n = m.slot;
+        here = member(s, from, to, members[k], here, end, dst, sizes, known);
         k += 1;
     }
-    Reached {
-        next: p,
-        to: o,
-        slot: n,
-    }
+    here
 }
 
 // A member of a row.
@@ -503,60 +379,55 @@ fn member(
     from: Side,
     to: Side,
     m: Member,
-    at: usize,
+    here: Spot,
     end: usize,
     dst: &mut [u8],
-    pos: usize,
     sizes: &mut [usize],
-    slot: usize,
     known: bool,
-) -> Reached
-    requires { ⌜ Ready known (memberNotes from to m (now s) at end) (now sizes) slot ⌝ }
-    ensures { λ r. ⌜ (r .next, r .to, now (dst .exit)) ≡ wrote (memberMove from to m (now (s .entry)) at end) (now (dst .entry)) pos ⌝ }
-    ensures { λ r. ⌜ (r .slot, now (sizes .exit)) ≡ puts (memberNotes from to m (now (s .entry)) at end) (now (sizes .entry)) slot ⌝ }
+) -> Spot
+    requires { ⌜ Ready known (memberNotes from to m (now s) (here .at) end) (now sizes) (here .slot) ⌝ }
+    ensures { λ r. ⌜ (r .at, r .pos, now (dst .exit)) ≡ wrote (memberMove from to m (now (s .entry)) (here .at) end) (now (dst .entry)) (here .pos) ⌝ }
+    ensures { λ r. ⌜ (r .slot, now (sizes .exit)) ≡ puts (memberNotes from to m (now (s .entry)) (here .at) end) (now (sizes .entry)) (here .slot) ⌝ }
 {
     match m {
-        Member::Blank => Reached {
-            next: at,
-            to: pos,
-            slot,
-        },
+        Member::Blank => here,
         Member::Known(w) => {
-            let v = known_pieces::known(s, from, to, w, at, end, dst, pos);
-            Reached {
-                next: v.next,
-                to: v.to,
-                slot,
+            let v = known_pieces::known(s, from, to, w, here.at, end, dst, here.pos);
+            Spot {
+                at: v.next,
+                pos: v.to,
+                slot: here.slot,
             }
         }
         Member::Leaf(_, primitive) => {
-            let v = pieces::leaf(s, from, to, primitive, at, end, dst, pos);
-            Reached {
-                next: v.next,
-                to: v.to,
-                slot,
+            let v = pieces::leaf(s, from, to, primitive, here.at, end, dst, here.pos);
+            Spot {
+                at: v.next,
+                pos: v.to,
+                slot: here.slot,
             }
         }
-        Member::Part(_, x) => noted(s, from, to, x, at, end, dst, pos, sizes, slot, known),
+        Member::Part(_, x) => noted(s, from, to, x, here, end, dst, sizes, known),
         Member::Maybe(_, x) => {
-            let h = sources::present(s, from, structures::tag_of(x), at, end);
+            let h = sources::present(s, from, structures::tag_of(x), here.at, end);
             let there = h.there;
-            let o = fronts::mark(dst, pos, to, there);
+            let o = fronts::mark(dst, here.pos, to, there);
+            let inner = Spot {
+                at: h.start,
+                pos: o,
+                slot: here.slot,
+            };
             if there {
-                return noted(s, from, to, x, h.start, end, dst, o, sizes, slot, known);
+                return noted(s, from, to, x, inner, end, dst, sizes, known);
             }
-            Reached {
-                next: h.start,
-                to: o,
-                slot,
-            }
+            inner
         }
         Member::Flag(_) => {
-            let v = flag_pieces::flag(s, from, to, at, end, dst, pos);
-            Reached {
-                next: v.next,
-                to: v.to,
-                slot,
+            let v = flag_pieces::flag(s, from, to, here.at, end, dst, here.pos);
+            Spot {
+                at: v.next,
+                pos: v.to,
+                slot: here.slot,
             }
         }
         Member::Choice {
@@ -567,35 +438,16 @@ fn member(
             first,
             second,
         } => {
-            let v = pieces::leaf(s, from, to, primitive, at, end, dst, pos);
-            if spans::is_content(s, from, primitive, content, at, end) {
-                return noted(
-                    s,
-                    from,
-                    to,
-                    first,
-                    v.next,
-                    end,
-                    dst,
-                    v.to,
-                    sizes,
-                    slot,
-                    known,
-                );
+            let v = pieces::leaf(s, from, to, primitive, here.at, end, dst, here.pos);
+            let after = Spot {
+                at: v.next,
+                pos: v.to,
+                slot: here.slot,
+            };
+            if spans::is_content(s, from, primitive, content, here.at, end) {
+                return noted(s, from, to, first, after, end, dst, sizes, known);
             }
-            noted(
-                s,
-                from,
-                to,
-                second,
-                v.next,
-                end,
-                dst,
-                v.to,
-                sizes,
-                slot,
-                known,
-            )
+            noted(s, from, to, second, after, end, dst, sizes, known)
         }
     }
 }
@@ -608,41 +460,34 @@ fn list(
     x: Structure,
     most: usize,
     count: usize,
-    at: usize,
+    first: Spot,
     end: usize,
     dst: &mut [u8],
-    pos: usize,
     sizes: &mut [usize],
-    slot: usize,
     known: bool,
 ) -> Body
-    requires { ⌜ Ready known (listNotes from to (layoutOf x) most 0 count (now s) at end) (now sizes) slot ⌝ }
-    ensures { λ r. ⌜ (r .next, r .items, r .to, now (dst .exit)) ≡ wroteBody (listMove from to (layoutOf x) most 0 count (now (s .entry)) at end) (now (dst .entry)) pos ⌝ }
-    ensures { λ r. ⌜ (r .slot, now (sizes .exit)) ≡ puts (listNotes from to (layoutOf x) most 0 count (now (s .entry)) at end) (now (sizes .entry)) slot ⌝ }
+    requires { ⌜ Ready known (listNotes from to (layoutOf x) most 0 count (now s) (first .at) end) (now sizes) (first .slot) ⌝ }
+    ensures { λ r. ⌜ (r .at, r .items, r .pos, now (dst .exit)) ≡ wroteBody (listMove from to (layoutOf x) most 0 count (now (s .entry)) (first .at) end) (now (dst .entry)) (first .pos) ⌝ }
+    ensures { λ r. ⌜ (r .slot, now (sizes .exit)) ≡ puts (listNotes from to (layoutOf x) most 0 count (now (s .entry)) (first .at) end) (now (sizes .entry)) (first .slot) ⌝ }
 {
-    let mut p = at;
-    let mut o = pos;
-    let mut n = slot;
+    let mut here = first;
     let mut k: usize = 0;
     while k < most {
-        if !sources::more(from, k, count, p, end) {
+        if !sources::more(from, k, count, here.at, end) {
             return Body {
-                next: p,
+                at: here.at,
                 items: k,
-                to: o,
-                slot: n,
+                pos: here.pos,
+                slot: here.slot,
             };
         }
-        let m = noted(s, from, to, x, p, end, dst, o, sizes, n, known);
-        p = m.next;
-        o = m.to;
-        n = m.slot;
+        here = noted(s, from, to, x, here, end, dst, sizes, known);
         k += 1;
     }
     Body {
-        next: p,
+        at: here.at,
         items: k,
-        to: o,
-        slot: n,
+        pos: here.pos,
+        slot: here.slot,
     }
 }

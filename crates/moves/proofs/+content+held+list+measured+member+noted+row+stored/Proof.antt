@@ -267,12 +267,11 @@ held-returns-3 : (t : ℕ) → held-lts.Need-returns-3 (held-c t) (held-at t) he
 held-returns-3 t c = (search (needs, held-steps), search (needs, same-notes))
 
 abbrev list-Inv-loop : list-lts.InvT-loop
-list-Inv-loop s from to x most count at end dst₀ pos sizes₀ slot known p₀ o₀ n₀ k₀ dst sizes p o n k =
-    (k ≤ most) × (length dst ≡ length dst₀) × (length sizes ≡ length sizes₀) × (wroteBody (listMove from to (layoutOf x) most 0 count s at end) dst₀ pos ≡ wroteBody (listMove from to (layoutOf x) most k count s p end) dst o) × (puts (listNotes from to (layoutOf x) most 0 count s at end) sizes₀ slot ≡ puts (listNotes from to (layoutOf x) most k count s p end) sizes n) × Ready known (listNotes from to (layoutOf x) most k count s p end) sizes n
+list-Inv-loop s from to x most count end dst₀ sizes₀ known here₀ k₀ dst sizes here k =
+    (k ≤ most) × (length dst ≡ length dst₀) × (length sizes ≡ length sizes₀) × (wroteBody (listMove from to (layoutOf x) most 0 count s (here₀ .at) end) dst₀ (here₀ .pos) ≡ wroteBody (listMove from to (layoutOf x) most k count s (here .at) end) dst (here .pos)) × (puts (listNotes from to (layoutOf x) most 0 count s (here₀ .at) end) sizes₀ (here₀ .slot) ≡ puts (listNotes from to (layoutOf x) most k count s (here .at) end) sizes (here .slot)) × Ready known (listNotes from to (layoutOf x) most k count s (here .at) end) sizes (here .slot)
 
 abbrev list-μ-loop : list-lts.MeasureT-loop
-list-μ-loop s from to x most count at end dst₀ pos sizes₀ slot known p₀ o₀ n₀ k₀ dst sizes p o n k =
-    most - k
+list-μ-loop s from to x most count end dst₀ sizes₀ known here₀ k₀ dst sizes here k = most - k
 
 list-loop-holds : (t : ℕ) → list-lts.Need-loop-holds (list-c t) (list-at t) list.Post list-Inv-loop list-μ-loop
 list-loop-holds t c = (search needs, search needs, search needs, search needs, search needs, search needs)
@@ -344,7 +343,7 @@ measured-returns : (t : ℕ) → measured-lts.Need-returns (measured-c t) (measu
 measured-returns t c = (search (needs, held-steps), search (needs, inside-noted, inside-again))
 
 measured-stored-requires : (t : ℕ) → measured-lts.Need-stored-requires (measured-c t) (measured-at t) measured.Post
-measured-stored-requires t c κs = (search (needs, smaller), let b = c .before .before .before .before .before .before .before .before .before .before .before .content .ensures .0 in let n = c .before .before .before .before .before .before .before .before .before .before .before .content .ensures .1 in let a = c .before .before .before .before .before .before .before .before .before .before .before .before .add .ensures in let v = c .before .before .before .before .before .before .before .note-of .ensures in let u = c .before .before .before .before .before .note .ensures in let l = c .before .before .before .before .before .before .before .before .before .before .before .before .before .before .before .before .before .before .pre .1 in let i = c .before .before .before .before .before .before .before .before .before .before .before .before .before .before .before .before .before .before .args in (search (needs, note-is), inside-known (i .from) (i .to) (i .x) (i .s .now) (i .count) (i .at) (i .end) _ _ _ [] _ b _ v (i .sizes .now) _ _ _ _ _ u n a l))
+measured-stored-requires t c κs = (search (needs, smaller), let b = c .before .before .before .before .before .before .before .before .before .before .before .content .ensures .0 in let n = c .before .before .before .before .before .before .before .before .before .before .before .content .ensures .1 in let a = c .before .before .before .before .before .before .before .before .before .before .before .before .add .ensures in let v = c .before .before .before .before .before .before .before .note-of .ensures in let u = c .before .before .before .before .before .note .ensures in let l = c .before .before .before .before .before .before .before .before .before .before .before .before .before .before .before .before .before .before .pre .1 in let i = c .before .before .before .before .before .before .before .before .before .before .before .before .before .before .before .before .before .before .args in (search (needs, note-is), inside-known (i .from) (i .to) (i .x) (i .s .now) (i .h .count) (i .h .start) (i .h .end) _ _ _ [] _ b _ v (i .sizes .now) _ _ _ _ _ u n a l))
 
 measured-same-length-3 : (t : ℕ) → measured-lts.Need-same-length-3 (measured-c t) (measured-at t) measured.Post
 measured-same-length-3 t c = search needs
@@ -536,11 +535,11 @@ noted-returns-4 : (t : ℕ) → noted-lts.Need-returns-4 (noted-c t) (noted-at t
 noted-returns-4 t c = (search (needs, item-steps), search (needs, same-notes))
 
 abbrev row-Inv-loop : row-lts.InvT-loop
-row-Inv-loop s from to at end dst₀ pos sizes₀ slot known members p₀ o₀ n₀ k₀ dst sizes p o n k =
-    (k ≤ row-width) × (length members ≡ row-width) × (length dst ≡ length dst₀) × (length sizes ≡ length sizes₀) × (sizes-of (rest k members) ≤ sizes-of (membersOf members)) × (wrote (moves from to (membersOf members) s at end) dst₀ pos ≡ wrote (moves from to (rest k members) s p end) dst o) × (puts (notesAll from to (membersOf members) s at end) sizes₀ slot ≡ puts (notesAll from to (rest k members) s p end) sizes n) × Ready known (notesAll from to (rest k members) s p end) sizes n
+row-Inv-loop s from to end dst₀ sizes₀ known members here₀ k₀ dst sizes here k =
+    (k ≤ row-width) × (length members ≡ row-width) × (length dst ≡ length dst₀) × (length sizes ≡ length sizes₀) × (sizes-of (rest k members) ≤ sizes-of (membersOf members)) × (wrote (moves from to (membersOf members) s (here₀ .at) end) dst₀ (here₀ .pos) ≡ wrote (moves from to (rest k members) s (here .at) end) dst (here .pos)) × (puts (notesAll from to (membersOf members) s (here₀ .at) end) sizes₀ (here₀ .slot) ≡ puts (notesAll from to (rest k members) s (here .at) end) sizes (here .slot)) × Ready known (notesAll from to (rest k members) s (here .at) end) sizes (here .slot)
 
 abbrev row-μ-loop : row-lts.MeasureT-loop
-row-μ-loop s from to at end dst₀ pos sizes₀ slot known members p₀ o₀ n₀ k₀ dst sizes p o n k = row-width - k
+row-μ-loop s from to end dst₀ sizes₀ known members here₀ k₀ dst sizes here k = row-width - k
 
 row-members-of-requires : (t : ℕ) → row-lts.Need-members-of-requires (row-c t) (row-at t) row.Post row-Inv-loop row-μ-loop
 row-members-of-requires t c κs = search needs
