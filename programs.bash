@@ -80,6 +80,23 @@ ask() {
     exec "${run[@]}"
 }
 
+# Runs a command that asks the program, to its end: `written` is what it wrote, `said` the last that it said, and the status is its own. What is
+# said goes on a last line, with a point behind it, so that no line end is lost; bash finds that line at once from the back, and in a large sheet
+# within seconds from the front.
+hold() {
+    local answer ended=0
+    answer=$(
+        ended=0
+        { said=$("$@" 2>&1 >&3) || ended=$?; } 3>&1
+        printf '\n%s.' "${said##*$'\n'}"
+        exit "$ended"
+    ) || ended=$?
+    written=${answer%$'\n'*}
+    said=${answer##*$'\n'}
+    said=${said%.}
+    return "$ended"
+}
+
 # Says why there is no answer for a file, in the system's own words.
 complain() {
     local reason=${2##*: }

@@ -4,18 +4,13 @@
 use Prim.Native.Nat.{ℕ, suc, zero}
 use mathlib.Core.List.{List, [], _∷_}
 use Rattle.terms.specs.declared.Field.{Field}
-use Rattle.terms.specs.Answer.{Res, good, fault, Got, pick}
+use Rattle.terms.specs.Answer.{Res, Got, pick, unread}
 use Rattle.heads.specs.Head.{forms, head, outermost}
 use Rattle.layouts.specs.Layout.{Item, leaf, node, list, wrap, Members, end, _▸_, Member, known, one, maybe, flag, choose}
 use Rattle.layouts.specs.Reading.{next, readLeaf, read, readPart}
 use Rattle.layouts.specs.Whole.{sequence, accept}
 use Rattle.layouts.specs.declared.Whose.{Whose}
 use Rattle.layouts.specs.declared.Whose.the-variants.{Nothing, Record, Field as field}
-
--- `x` where a reading is refused, else what comes of what was read
-abbrev pub unread : {A : Type 0} → Res A → Whose → (A → Whose) → Whose
-unread (good a) x k = k a
-unread (fault n p) x k = x
 
 -- the items of a list, at most `n`: the first that is refused; where none is, the list itself, which has none or too many
 unfoldable pub aboutMany : {A : Type 0} → (List ℕ → ℕ → Res (Got A)) → (List ℕ → ℕ → Whose) → Whose → ℕ → List ℕ → ℕ → Whose

@@ -4,7 +4,7 @@ use mathlib.Core.List.{List, [], _∷_, _++_}
 use lib.ListN.{length}
 use Rattle.terms.specs.declared.Field.{Field}
 use Rattle.terms.specs.Numbers.{no-item}
-use Rattle.terms.specs.Answer.{Res, good, fault, Got, pick, need, enough}
+use Rattle.terms.specs.Answer.{Res, Got, pick, unread, need, enough}
 use Rattle.heads.specs.Head.{forms, head, outermost, tlv}
 use Rattle.contents.specs.Leaves.{Leaf, boolean}
 use Rattle.layouts.specs.Layout.{Item, leaf, node, list, wrap, Members, end, _▸_, Member, known, one, maybe, flag, choose, tagOf}
@@ -14,8 +14,7 @@ use Rattle.layouts.specs.Fields.{Entry, entry, listEntry}
 
 -- the fields of what was read; where it is refused there are none
 abbrev pub ofRead : {A : Type 0} → Res A → (A → List Entry) → List Entry
-ofRead (good a) k = k a
-ofRead (fault n p) k = []
+ofRead r k = unread r [] k
 
 unfoldable pub passedLeaf : Leaf → Field → ℕ → List ℕ → ℕ → List Entry
 passedLeaf l f k w b = ofRead (readLeaf l w b) λ c. entry f k (c .start) (c .content) ∷ []

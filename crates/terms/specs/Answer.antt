@@ -31,6 +31,11 @@ unfoldable pub bind : {A B : Type 0} → Res A → (A → Res B) → Res B
 bind (good a) k = k a
 bind (fault n p) k = fault n p
 
+-- what comes of what was read; `x` where it is refused
+abbrev pub unread : {A B : Type 0} → Res A → B → (A → B) → B
+unread (good a) x k = k a
+unread (fault n p) x k = x
+
 -- go on if the test holds, else refuse with a number and a place
 unfoldable pub need : {A : Type 0} → Bool → ℕ → ℕ → Res A → Res A
 need true n p r = r

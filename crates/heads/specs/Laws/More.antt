@@ -10,7 +10,7 @@ use lib.Seq.{take-append-le, drop-append-le}
 use lib.Dec.{T, leb, ltb, eqb, leb→le}
 use borrow.Author.Tests.{le-leb}
 use Rattle.terms.specs.Numbers.{bad-length, other-tag, too-large}
-use Rattle.terms.specs.Answer.{Res, good, fault, pick, bind, need, have, every}
+use Rattle.terms.specs.Answer.{Res, good, fault, pick, bind, unread, need, have, every}
 use Rattle.terms.specs.Digits.{isByte, number, leading}
 use Rattle.terms.specs.Laws.Answer.{test, and-l, and-r, is-true, is-false}
 use Rattle.heads.specs.Head.{Form, forms, Size, sized, unspell, anySize, isShortest, size, opening, Cut, cutOff, cut, outermost}
@@ -99,3 +99,12 @@ outermost-more most t w z b m h = rw (opening-more t w z b h) (go (opening forms
     go : (r : Res Size) → opening forms t w b ≡ r → (bind (moreSize z r) λ x. need (leb (x .header + x .content) most) too-large b (cut b x)) ≡ moreCut z (bind r λ x. need (leb (x .header + x .content) most) too-large b (cut b x))
     go (good x) e = held x (opening-rest t w b x e .0)
     go (fault n p) e = refl
+
+-- and what comes of the content alone stays
+pub inside-more : {A : Type 0} (most t : ℕ) (w z : List ℕ) (b : ℕ) → most < length w → 4 ≤ length w → (x : A) (f : List ℕ → ℕ → A)
+    → (unread (outermost forms most t (w ++ z) b) x λ c. f (c .content) (c .start)) ≡ (unread (outermost forms most t w b) x λ c. f (c .content) (c .start))
+inside-more most t w z b m h x f = rw (outermost-more most t w z b m h) (go (outermost forms most t w b))
+  where
+    go : (r : Res Cut) → (unread (moreCut z r) x λ c. f (c .content) (c .start)) ≡ (unread r x λ c. f (c .content) (c .start))
+    go (good c) = refl
+    go (fault n p) = refl

@@ -11,13 +11,13 @@ use borrow.Author.Tests.{lt-ltb, ne-eqb}
 use Rattle.terms.specs.declared.Field.{Field}
 use Rattle.terms.specs.Names.{code, nameOf}
 use Rattle.terms.specs.Numbers.{left-over, too-many-items}
-use Rattle.terms.specs.Answer.{Res, good, fault, Got, got, pick, bind, need, enough, finish}
+use Rattle.terms.specs.Answer.{Res, good, fault, Got, got, pick, bind, unread, need, enough, finish}
 use Rattle.terms.specs.Laws.Answer.{never, test, by-bind, is-true, is-false}
 use Rattle.terms.specs.Laws.Names.{name-code}
 use Rattle.heads.specs.Head.{forms, Cut, outermost}
 use Rattle.heads.specs.Scan.{seen, headAt, outermostAt}
 use Rattle.heads.specs.Laws.Head.{outermost-back}
-use Rattle.heads.specs.Laws.More.{moreCut, outermost-more}
+use Rattle.heads.specs.Laws.More.{inside-more}
 use Rattle.heads.specs.declared.Step.{Step}
 use Rattle.heads.specs.declared.Step.the-variants.{Next, Refused}
 use Rattle.contents.specs.Leaves.{Leaf, boolean, only}
@@ -27,7 +27,7 @@ use Rattle.layouts.specs.Whole.{sequence, recordAt, accept}
 use Rattle.layouts.specs.Scan.{scan, wholeScan}
 use Rattle.layouts.specs.Places.{table-size}
 use Rattle.layouts.specs.Marks.{noted, unblamed, blamed, blaming, afterSeen, afterStep, afterTally, thenTally, tally, manyMarks, leafMarks, marks, marksAll, marksPart, recordMarks}
-use Rattle.layouts.specs.About.{unread, aboutMany, about, aboutAll, aboutPart, recordAbout}
+use Rattle.layouts.specs.About.{aboutMany, about, aboutAll, aboutPart, recordAbout}
 use Rattle.layouts.specs.declared.Tally.{Tally}
 use Rattle.layouts.specs.declared.Tally.the-variants.{Items, Refused as Uncounted}
 use Rattle.layouts.specs.declared.Whose.{Whose}
@@ -348,9 +348,4 @@ refused-about most r s n p e q = named (behindTable (recordMarks most r s 0 (len
 -- bytes after the first that no record has room for change nothing
 pub about-more : (most : ℕ) (r : Members) (w z : List ℕ) → most < length w → 4 ≤ length w → recordAbout most r (w ++ z) ≡ recordAbout most r w
 unfolding recordAbout
-about-more most r w z m h = rw (accept-more most r w z m h, outermost-more most sequence w z 0 m h) (go (accept most r w) (outermost forms most sequence w 0))
-  where
-    go : (a : Res (Values r)) (x : Res Cut)
-        → (unread a (unread (moreCut z x) Record λ c. aboutAll r Record (c .content) (c .start)) λ v. Nothing) ≡ (unread a (unread x Record λ c. aboutAll r Record (c .content) (c .start)) λ v. Nothing)
-    go a (good c) = refl
-    go a (fault n p) = refl
+about-more most r w z m h = rw (accept-more most r w z m h, inside-more most sequence w z 0 m h Record (λ c p. aboutAll r Record c p))

@@ -9,11 +9,11 @@ use lib.ListN.{length, take, replicate, length-set, length-replicate}
 use lib.Seq.{take-length}
 use Rattle.terms.specs.declared.Field.{Field}
 use Rattle.terms.specs.Numbers.{left-over, no-item}
-use Rattle.terms.specs.Answer.{Res, good, fault, Got, got, pick, bind, enough}
+use Rattle.terms.specs.Answer.{Res, good, Got, got, pick, bind, enough}
 use Rattle.terms.specs.Laws.Answer.{clash, good-inj, by-bind, by-need, need-eq}
-use Rattle.heads.specs.Head.{forms, Cut, tlv, before, outermost}
+use Rattle.heads.specs.Head.{Cut, tlv, before}
 use Rattle.heads.specs.Laws.Head.{head-back, outermost-back}
-use Rattle.heads.specs.Laws.More.{moreCut, outermost-more}
+use Rattle.heads.specs.Laws.More.{inside-more}
 use Rattle.contents.specs.Leaves.{Leaf, boolean}
 use Rattle.layouts.specs.Layout.{Item, leaf, node, list, wrap, Members, end, _▸_, Member, known, one, maybe, flag, choose, tagOf, Values, Ok, encode}
 use Rattle.layouts.specs.Reading.{next, readLeaf, begins, many, readOption, readFlag, readEither, read, reads, readPart}
@@ -21,7 +21,7 @@ use Rattle.layouts.specs.Whole.{sequence, recordAt, accept}
 use Rattle.layouts.specs.Fields.{Entry, entry, startOf, eachFields, optionFields, eitherFields, flagFields, itemFields, runFields, partFields, fields}
 use Rattle.layouts.specs.Places.{table-size, wanted-at, Placed}
 use Rattle.layouts.specs.Marks.{recordMarks}
-use Rattle.layouts.specs.Passed.{ofRead, passedLeaf, passedMany, passed, passedAll, passedPart, recordPassed}
+use Rattle.layouts.specs.Passed.{passedLeaf, passedMany, passed, passedAll, passedPart, recordPassed}
 use Rattle.layouts.specs.Laws.Reading.{Backward, leaf-back, leaf-next, many-back, yes-back, finish-back, backward, backwards, backwardPart}
 use Rattle.layouts.specs.Laws.Places.{blank}
 use Rattle.layouts.specs.Laws.Passed.{passed-placed, placed-whole}
@@ -140,11 +140,7 @@ accepted-passed most r s v h =
 -- bytes after the first that no record has room for change nothing
 pub passed-more : (most : ℕ) (r : Members) (w z : List ℕ) → most < length w → 4 ≤ length w → recordPassed most r (w ++ z) ≡ recordPassed most r w
 unfolding recordPassed
-passed-more most r w z m h = rw (outermost-more most sequence w z 0 m h) (go (outermost forms most sequence w 0))
-  where
-    go : (x : Res Cut) → (ofRead (moreCut z x) λ c. passedAll r 0 (c .content) (c .start)) ≡ (ofRead x λ c. passedAll r 0 (c .content) (c .start))
-    go (good c) = refl
-    go (fault n p) = refl
+passed-more most r w z m h = inside-more most sequence w z 0 m h [] (λ c p. passedAll r 0 c p)
 
 -- an accepted record's table has its fields
 pub accepted-placed : (most : ℕ) (r : Members) (s : List ℕ) (v : Values r) → accept most r s ≡ good v → (k : ℕ) → Placed k (fields r v) (recordMarks most r s 0 (length s) (blank k))
