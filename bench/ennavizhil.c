@@ -17,8 +17,8 @@ static uint64_t places(void) { return ennavizhil_signature_places(record, length
 
 /* One field, the signer certificate: where it starts, and how many bytes it has. */
 static uint64_t field(void) {
-    uint64_t start = ennavizhil_field_start(ENNAVIZHIL_KIND_SIGNATURE, record, length, ENNAVIZHIL_FIELD_SIGNER_CERTIFICATE, 0);
-    uint64_t bytes = ennavizhil_field_length(ENNAVIZHIL_KIND_SIGNATURE, record, length, ENNAVIZHIL_FIELD_SIGNER_CERTIFICATE, 0);
+    uint64_t start = ennavizhil_field_start(ENNAVIZHIL_SIGNATURE, record, length, ENNAVIZHIL_SIGNER_CERTIFICATE, 0);
+    uint64_t bytes = ennavizhil_field_length(ENNAVIZHIL_SIGNATURE, record, length, ENNAVIZHIL_SIGNER_CERTIFICATE, 0);
     return ennavizhil_number(start) != ENNAVIZHIL_DONE ? start : bytes;
 }
 
@@ -39,19 +39,19 @@ static uint64_t write_back(void) { return ennavizhil_signature_write(sheet, shee
 
 /* Findings with which every step holds. */
 static const uint64_t findings[ENNAVIZHIL_FINDINGS] = {
-    [ENNAVIZHIL_FINDING_SIGNATURE_GOOD] = 1,
-    [ENNAVIZHIL_FINDING_SEALING_GOOD] = 1,
-    [ENNAVIZHIL_FINDING_NOW] = 20240701000000,
-    [ENNAVIZHIL_FINDING_MAKER_CHAIN] = 1,
-    [ENNAVIZHIL_FINDING_MAKER_USAGE] = 1,
-    [ENNAVIZHIL_FINDING_MAKER_FIRST] = 20230101000000,
-    [ENNAVIZHIL_FINDING_MAKER_LAST] = 20251231235959,
-    [ENNAVIZHIL_FINDING_SIGNER_CHAIN] = 1,
-    [ENNAVIZHIL_FINDING_SIGNER_USAGE] = 1,
-    [ENNAVIZHIL_FINDING_SIGNER_FIRST] = 20230101000000,
-    [ENNAVIZHIL_FINDING_SIGNER_LAST] = 20251231235959,
-    [ENNAVIZHIL_FINDING_STAMP_STATE] = 2,
-    [ENNAVIZHIL_FINDING_STAMP_AT] = 20240630120001,
+    [ENNAVIZHIL_SIGNATURE_GOOD] = 1,
+    [ENNAVIZHIL_SEALING_GOOD] = 1,
+    [ENNAVIZHIL_NOW] = 20240701000000,
+    [ENNAVIZHIL_MAKER_CHAIN] = 1,
+    [ENNAVIZHIL_MAKER_USAGE] = 1,
+    [ENNAVIZHIL_MAKER_FIRST] = 20230101000000,
+    [ENNAVIZHIL_MAKER_LAST] = 20251231235959,
+    [ENNAVIZHIL_SIGNER_CHAIN] = 1,
+    [ENNAVIZHIL_SIGNER_USAGE] = 1,
+    [ENNAVIZHIL_SIGNER_FIRST] = 20230101000000,
+    [ENNAVIZHIL_SIGNER_LAST] = 20251231235959,
+    [ENNAVIZHIL_STAMP_STATE] = 2,
+    [ENNAVIZHIL_STAMP_AT] = 20240630120001,
 };
 
 /* The digests of the findings, as parts of the record. */
@@ -61,12 +61,12 @@ static size_t original_length, signer_length;
 /* Takes the original digest from the record, and from a list of digests the last one for the signer's. */
 static void prepare_verdict(void) {
     if (ennavizhil_signature_places(record, length, 0, table, ENNAVIZHIL_TABLE) != (uint64_t)length << 8) stop("the record is refused");
-    original = record + table[4 * ENNAVIZHIL_FIELD_ORIGINAL_DIGEST + 1];
-    original_length = table[4 * ENNAVIZHIL_FIELD_ORIGINAL_DIGEST + 2];
-    size_t last = table[4 * ENNAVIZHIL_FIELD_CERTIFICATE_LIST + 3] - 1;
+    original = record + table[4 * ENNAVIZHIL_ORIGINAL_DIGEST + 1];
+    original_length = table[4 * ENNAVIZHIL_ORIGINAL_DIGEST + 2];
+    size_t last = table[4 * ENNAVIZHIL_CERTIFICATE_LIST + 3] - 1;
     if (ennavizhil_signature_places(record, length, last, table, ENNAVIZHIL_TABLE) != (uint64_t)length << 8) stop("the record is refused");
-    signer = record + table[4 * ENNAVIZHIL_FIELD_LISTED_DIGEST + 1];
-    signer_length = table[4 * ENNAVIZHIL_FIELD_LISTED_DIGEST + 2];
+    signer = record + table[4 * ENNAVIZHIL_LISTED_DIGEST + 1];
+    signer_length = table[4 * ENNAVIZHIL_LISTED_DIGEST + 2];
 }
 
 /* One verdict. */

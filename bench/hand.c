@@ -64,21 +64,12 @@ static void note(reader *r, unsigned field, size_t start, size_t length, size_t 
 #endif
 }
 
-/* Says that what follows is the item of a number in its list. */
+/* Says that what follows is the item of a number in its list; what is in no list has number 0. */
 static void now_at(reader *r, size_t number) {
 #ifdef PLACES
     r->noted = number == r->index;
 #else
     (void)r, (void)number;
-#endif
-}
-
-/* Says that what follows is in no list, so that it is noted whatever the index. */
-static void now_outside(reader *r) {
-#ifdef PLACES
-    r->noted = true;
-#else
-    (void)r;
 #endif
 }
 
@@ -173,7 +164,7 @@ static bool seal_type(reader *r) {
     item x;
     int64_t value;
     if (!number(r, &x, &value)) return false;
-    note(r, ENNAVIZHIL_FIELD_SEAL_TYPE, x.start, x.length, 0);
+    note(r, ENNAVIZHIL_SEAL_TYPE, x.start, x.length, 0);
     return true;
 }
 
@@ -181,7 +172,7 @@ static bool seal_type(reader *r) {
 static bool list_kind(reader *r, int64_t *kind) {
     item x;
     if (!number_between(r, &x, 1, 2, kind)) return false;
-    note(r, ENNAVIZHIL_FIELD_LIST_KIND, x.start, x.length, 0);
+    note(r, ENNAVIZHIL_LIST_KIND, x.start, x.length, 0);
     return true;
 }
 
@@ -303,7 +294,7 @@ static bool seal_name(reader *r) {
     item x;
     if (!primitive(r, UTF8_STRING, &x)) return false;
     if (!is_utf8(r->bytes + x.start, x.length)) return refuse(r, 9, x.tag);
-    note(r, ENNAVIZHIL_FIELD_SEAL_NAME, x.start, x.length, 0);
+    note(r, ENNAVIZHIL_SEAL_NAME, x.start, x.length, 0);
     return true;
 }
 
@@ -312,7 +303,7 @@ static bool listed_type(reader *r) {
     item x;
     if (!primitive(r, PRINTABLE_STRING, &x)) return false;
     if (!is_all_printable(r->bytes + x.start, x.length)) return refuse(r, 9, x.tag);
-    note(r, ENNAVIZHIL_FIELD_LISTED_TYPE, x.start, x.length, 0);
+    note(r, ENNAVIZHIL_LISTED_TYPE, x.start, x.length, 0);
     return true;
 }
 
@@ -391,15 +382,15 @@ static bool critical(reader *r, unsigned field) {
 }
 
 /* Reads a certificate of a list. */
-static bool certificate(reader *r) { return octets(r, ENNAVIZHIL_FIELD_LISTED_CERTIFICATE, NOT_EMPTY); }
+static bool certificate(reader *r) { return octets(r, ENNAVIZHIL_LISTED_CERTIFICATE, NOT_EMPTY); }
 
 /* Reads a digest of a list. */
 static bool digest(reader *r) {
     item x;
     size_t outer;
     if (!enter(r, SEQUENCE, &x, &outer)) return false;
-    note_whole(r, ENNAVIZHIL_FIELD_LISTED_ENTRY, &x);
-    return listed_type(r) && octets(r, ENNAVIZHIL_FIELD_LISTED_DIGEST, NOT_EMPTY) && leave(r, outer);
+    note_whole(r, ENNAVIZHIL_LISTED_ENTRY, &x);
+    return listed_type(r) && octets(r, ENNAVIZHIL_LISTED_DIGEST, NOT_EMPTY) && leave(r, outer);
 }
 
 /* Reads a custom item, whose fields have the numbers from one on. */
@@ -412,10 +403,10 @@ static bool custom_item(reader *r, unsigned field) {
 }
 
 /* Reads a custom item of the seal. */
-static bool seal_custom_item(reader *r) { return custom_item(r, ENNAVIZHIL_FIELD_SEAL_CUSTOM_ITEM); }
+static bool seal_custom_item(reader *r) { return custom_item(r, ENNAVIZHIL_SEAL_CUSTOM_ITEM); }
 
 /* Reads a custom item of the signed part. */
-static bool signed_custom_item(reader *r) { return custom_item(r, ENNAVIZHIL_FIELD_SIGNED_CUSTOM_ITEM); }
+static bool signed_custom_item(reader *r) { return custom_item(r, ENNAVIZHIL_SIGNED_CUSTOM_ITEM); }
 
 /* Reads a list of at most 64 items, one of certificates or digests not empty: 15, 16. */
 static bool list(reader *r, unsigned field, bool (*one)(reader *), int empty) {
@@ -429,22 +420,22 @@ static bool list(reader *r, unsigned field, bool (*one)(reader *), int empty) {
         if (!one(r)) return false;
         items++;
     }
-    now_outside(r);
+    now_at(r, 0);
     r->end = outer;
     note(r, field, x.tag, x.start + x.length - x.tag, items);
     return true;
 }
 
 /* Reads the certificate list, of certificates or of digests as its kind says. */
-static bool certificate_list(reader *r, int64_t kind) { return list(r, ENNAVIZHIL_FIELD_CERTIFICATE_LIST, kind == 1 ? certificate : digest, NOT_EMPTY); }
+static bool certificate_list(reader *r, int64_t kind) { return list(r, ENNAVIZHIL_CERTIFICATE_LIST, kind == 1 ? certificate : digest, NOT_EMPTY); }
 
 /* Reads the header. */
 static bool header(reader *r) {
     item x;
     size_t outer;
     if (!enter(r, SEQUENCE, &x, &outer)) return false;
-    note_whole(r, ENNAVIZHIL_FIELD_HEADER, &x);
-    return header_name(r) && version(r) && ia5(r, ENNAVIZHIL_FIELD_VENDOR, MAY_BE_EMPTY) && leave(r, outer);
+    note_whole(r, ENNAVIZHIL_HEADER, &x);
+    return header_name(r) && version(r) && ia5(r, ENNAVIZHIL_VENDOR, MAY_BE_EMPTY) && leave(r, outer);
 }
 
 /* Reads the property. */
@@ -453,9 +444,9 @@ static bool property(reader *r) {
     size_t outer;
     int64_t kind;
     if (!enter(r, SEQUENCE, &x, &outer)) return false;
-    note_whole(r, ENNAVIZHIL_FIELD_PROPERTY, &x);
-    return seal_type(r) && seal_name(r) && list_kind(r, &kind) && certificate_list(r, kind) && time(r, ENNAVIZHIL_FIELD_CREATED) && time(r, ENNAVIZHIL_FIELD_START) &&
-           time(r, ENNAVIZHIL_FIELD_END) && leave(r, outer);
+    note_whole(r, ENNAVIZHIL_PROPERTY, &x);
+    return seal_type(r) && seal_name(r) && list_kind(r, &kind) && certificate_list(r, kind) && time(r, ENNAVIZHIL_CREATED) && time(r, ENNAVIZHIL_START) &&
+           time(r, ENNAVIZHIL_END) && leave(r, outer);
 }
 
 /* Reads the picture. */
@@ -463,14 +454,14 @@ static bool picture(reader *r) {
     item x;
     size_t outer;
     if (!enter(r, SEQUENCE, &x, &outer)) return false;
-    note_whole(r, ENNAVIZHIL_FIELD_PICTURE, &x);
-    return ia5(r, ENNAVIZHIL_FIELD_PICTURE_TYPE, NOT_EMPTY) && octets(r, ENNAVIZHIL_FIELD_PICTURE_DATA, NOT_EMPTY) && millimetres(r, ENNAVIZHIL_FIELD_WIDTH) &&
-           millimetres(r, ENNAVIZHIL_FIELD_HEIGHT) && leave(r, outer);
+    note_whole(r, ENNAVIZHIL_PICTURE, &x);
+    return ia5(r, ENNAVIZHIL_PICTURE_TYPE, NOT_EMPTY) && octets(r, ENNAVIZHIL_PICTURE_DATA, NOT_EMPTY) && millimetres(r, ENNAVIZHIL_WIDTH) &&
+           millimetres(r, ENNAVIZHIL_HEIGHT) && leave(r, outer);
 }
 
 /* Reads the seal's custom data, where it is there. */
 static bool seal_custom_data(reader *r) {
-    return !begins(r, SEQUENCE) || list(r, ENNAVIZHIL_FIELD_SEAL_CUSTOM_DATA, seal_custom_item, MAY_BE_EMPTY);
+    return !begins(r, SEQUENCE) || list(r, ENNAVIZHIL_SEAL_CUSTOM_DATA, seal_custom_item, MAY_BE_EMPTY);
 }
 
 /* Reads seal information. */
@@ -478,8 +469,8 @@ static bool seal_information(reader *r) {
     item x;
     size_t outer;
     if (!enter(r, SEQUENCE, &x, &outer)) return false;
-    note_whole(r, ENNAVIZHIL_FIELD_SEAL_INFORMATION, &x);
-    return header(r) && ia5(r, ENNAVIZHIL_FIELD_SEAL_ID, NOT_EMPTY) && property(r) && picture(r) && seal_custom_data(r) && leave(r, outer);
+    note_whole(r, ENNAVIZHIL_SEAL_INFORMATION, &x);
+    return header(r) && ia5(r, ENNAVIZHIL_SEAL_ID, NOT_EMPTY) && property(r) && picture(r) && seal_custom_data(r) && leave(r, outer);
 }
 
 /* Reads the seal. */
@@ -487,9 +478,9 @@ static bool seal(reader *r) {
     item x;
     size_t outer;
     if (!enter(r, SEQUENCE, &x, &outer)) return false;
-    note_whole(r, ENNAVIZHIL_FIELD_SEAL, &x);
-    return seal_information(r) && octets(r, ENNAVIZHIL_FIELD_MAKER_CERTIFICATE, NOT_EMPTY) && identifier(r, ENNAVIZHIL_FIELD_SEAL_ALGORITHM) &&
-           bits(r, ENNAVIZHIL_FIELD_SEAL_SIGNED_VALUE) && leave(r, outer);
+    note_whole(r, ENNAVIZHIL_WHOLE_SEAL, &x);
+    return seal_information(r) && octets(r, ENNAVIZHIL_MAKER_CERTIFICATE, NOT_EMPTY) && identifier(r, ENNAVIZHIL_SEAL_ALGORITHM) &&
+           bits(r, ENNAVIZHIL_SEAL_SIGNED_VALUE) && leave(r, outer);
 }
 
 /* Reads the signed part's custom data, where it is there. */
@@ -497,7 +488,7 @@ static bool signed_custom_data(reader *r) {
     item x;
     size_t outer;
     if (!begins(r, TAGGED)) return true;
-    return enter(r, TAGGED, &x, &outer) && list(r, ENNAVIZHIL_FIELD_SIGNED_CUSTOM_DATA, signed_custom_item, MAY_BE_EMPTY) && leave(r, outer);
+    return enter(r, TAGGED, &x, &outer) && list(r, ENNAVIZHIL_SIGNED_CUSTOM_DATA, signed_custom_item, MAY_BE_EMPTY) && leave(r, outer);
 }
 
 /* Reads the signed part. */
@@ -505,8 +496,8 @@ static bool signed_part(reader *r) {
     item x;
     size_t outer;
     if (!enter(r, SEQUENCE, &x, &outer)) return false;
-    note_whole(r, ENNAVIZHIL_FIELD_SIGNED_PART, &x);
-    return version(r) && seal(r) && time(r, ENNAVIZHIL_FIELD_SIGNING_TIME) && bits(r, ENNAVIZHIL_FIELD_ORIGINAL_DIGEST) && ia5(r, ENNAVIZHIL_FIELD_PROPERTY_TEXT, NOT_EMPTY) &&
+    note_whole(r, ENNAVIZHIL_SIGNED_PART, &x);
+    return version(r) && seal(r) && time(r, ENNAVIZHIL_SIGNING_TIME) && bits(r, ENNAVIZHIL_ORIGINAL_DIGEST) && ia5(r, ENNAVIZHIL_PROPERTY_TEXT, NOT_EMPTY) &&
            signed_custom_data(r) && leave(r, outer);
 }
 
@@ -515,7 +506,7 @@ static bool stamp(reader *r) {
     item x;
     size_t outer;
     if (!begins(r, TAGGED)) return true;
-    return enter(r, TAGGED, &x, &outer) && bits(r, ENNAVIZHIL_FIELD_STAMP) && leave(r, outer);
+    return enter(r, TAGGED, &x, &outer) && bits(r, ENNAVIZHIL_STAMP) && leave(r, outer);
 }
 
 /* Reads the head of the outermost item and goes into it: 1, 2, 3, 17, 4. */
@@ -532,14 +523,14 @@ static bool enter_record(reader *r, size_t *outer) {
 /* Reads a signature record that is the whole input. */
 static bool signature_record(reader *r) {
     size_t outer;
-    return enter_record(r, &outer) && signed_part(r) && octets(r, ENNAVIZHIL_FIELD_SIGNER_CERTIFICATE, NOT_EMPTY) && identifier(r, ENNAVIZHIL_FIELD_SIGNATURE_ALGORITHM) &&
-           bits(r, ENNAVIZHIL_FIELD_SIGNATURE_VALUE) && stamp(r) && leave(r, outer) && leave(r, outer);
+    return enter_record(r, &outer) && signed_part(r) && octets(r, ENNAVIZHIL_SIGNER_CERTIFICATE, NOT_EMPTY) && identifier(r, ENNAVIZHIL_SIGNATURE_ALGORITHM) &&
+           bits(r, ENNAVIZHIL_SIGNATURE_VALUE) && stamp(r) && leave(r, outer) && leave(r, outer);
 }
 
 #ifdef PLACES
 uint64_t hand_places(const uint8_t *record, size_t record_length, size_t index, size_t *table, size_t table_length) {
     size_t places[ENNAVIZHIL_TABLE] = {0};
-    reader r = {.bytes = record, .end = record_length, .table = places, .index = index, .noted = true};
+    reader r = {.bytes = record, .end = record_length, .table = places, .index = index, .noted = index == 0};
     places[ENNAVIZHIL_TABLE - 1] = index;
     if (!signature_record(&r)) return r.refusal;
     if (table_length < ENNAVIZHIL_TABLE) return (uint64_t)ENNAVIZHIL_TABLE << 8 | 20;

@@ -1,6 +1,5 @@
 /* Answers the cases of standard input through the library, each the four bytes of its size and its bytes, with a line for each; second/README.md has their
- * form. With the word "house" it tests instead what no case asks for, and says how many answers were right; with "words" and "labels" it prints every text,
- * those of two languages after their number. */
+ * form. With the word "house" it tests instead what no case asks for, and says how many answers were right. */
 #include "ennavizhil.h"
 #include <inttypes.h>
 #include <stdio.h>
@@ -141,7 +140,7 @@ static void answer_verdict(judges *judge) {
     for (size_t i = 0; i < ENNAVIZHIL_FINDINGS; i++) findings[i] = number(sizes[i]);
     slice original = bytes(), signer = bytes(), s = bytes();
     uint64_t answer = judge(s.at, s.length, original.at, original.length, signer.at, signer.length, findings, ENNAVIZHIL_FINDINGS);
-    if (ennavizhil_is_verdict(ennavizhil_number(answer)))
+    if (num(answer) == 0 || (num(answer) > 20 && num(answer) < ENNAVIZHIL_NOT_FINDINGS))
         printf("JUDGED %u %" PRIu64, num(answer), ennavizhil_above(answer));
     else
         refused(answer);
@@ -149,7 +148,7 @@ static void answer_verdict(judges *judge) {
 
 static void answer_case(void) {
     unsigned operation = (unsigned)number(1);
-    uint8_t kind = operation % 2 == 1 ? ENNAVIZHIL_KIND_SEAL : ENNAVIZHIL_KIND_SIGNATURE;
+    uint8_t kind = operation % 2 == 1 ? ENNAVIZHIL_SEAL : ENNAVIZHIL_SIGNATURE;
     static sends *const send[] = {ennavizhil_seal_sheet, ennavizhil_signature_sheet, ennavizhil_seal_write, ennavizhil_signature_write};
     uint64_t a, b;
     slice s, given;
@@ -220,195 +219,52 @@ static void expect(const char *what, uint64_t is, uint64_t must) {
     printf("%s: %" PRIu64 ", not %" PRIu64 "\n", what, is, must);
 }
 
-/* The functions that take a kind, on one record: each of them answers alike, as a number. */
-static void expect_all(const char *what, uint8_t kind, slice r, uint64_t must) {
+/* What no case asks for: numbers that are no field's, rows that are no findings, kinds above 1. */
+static int house(void) {
+    uint8_t s[LARGEST];
+    size_t n = fread(s, 1, sizeof s, stdin);
+    expect("the record", num(ennavizhil_signature_check(s, n)), 0);
+    for (unsigned field = 43; field < 256; field++) {
+        expect("the start of no field", ennavizhil_field_start(1, s, n, (uint8_t)field, 0), 254);
+        expect("the length of no field", ennavizhil_field_length(1, s, n, (uint8_t)field, 0), 254);
+    }
     for (unsigned field = 0; field < 256; field++) {
         uint8_t f = (uint8_t)field;
-        expect(what, num(ennavizhil_field_start(kind, r.at, r.length, f, 0)), must);
-        expect(what, num(ennavizhil_field_length(kind, r.at, r.length, f, 0)), must);
-        expect(what, num(ennavizhil_value_check(kind, r.at, r.length, f)), must);
-        expect(what, (uint64_t)ennavizhil_value(kind, r.at, r.length, f), 0);
-        expect(what, num(ennavizhil_critical(kind, r.at, r.length, f, 0)), must);
-        expect(what, num(ennavizhil_count(kind, r.at, r.length, f)), must);
+        expect("a value", num(ennavizhil_value_check(1, s, n, f)), is_one_of(f, "\x05\x07\x13\x14") ? 0 : 254);
+        expect("a critical of a seal", num(ennavizhil_critical(0, s, n, f, 0)), f == 24 ? 2 : 254);
+        expect("a count of a seal", num(ennavizhil_count(0, s, n, f)), f == 8 || f == 21 ? 2 : 254);
+        if (!is_one_of(f, "\x18\x25")) expect("a critical", ennavizhil_critical(1, s, n, f, 0), 254);
+        if (!is_one_of(f, "\x08\x15\x22")) expect("a count", ennavizhil_count(1, s, n, f), 254);
     }
-    expect(what, num(ennavizhil_matching_start(kind, r.at, r.length, NULL, 0)), must);
-    expect(what, num(ennavizhil_matching_length(kind, r.at, r.length, NULL, 0)), must);
-}
-
-/* Numbers that are no field's of an accepted record, kinds that are none, and the refusal before all else. */
-static void kinds_and_fields(slice s, slice seal) {
-    const slice none = {NULL, 0};
-    for (unsigned field = 0; field < 256; field++) {
-        uint8_t f = (uint8_t)field;
-        if (f > 42) expect("the start of no field", ennavizhil_field_start(1, s.at, s.length, f, 0), 254);
-        if (f > 42) expect("the length of no field", ennavizhil_field_length(1, s.at, s.length, f, 0), 254);
-        expect("a value", num(ennavizhil_value_check(1, s.at, s.length, f)), is_one_of(f, "\x05\x07\x13\x14") ? 0 : 254);
-        expect("a value of a seal", num(ennavizhil_value_check(0, seal.at, seal.length, f)), is_one_of(f, "\x05\x07\x13\x14") ? 0 : 254);
-        if (!is_one_of(f, "\x18\x25")) expect("a critical", ennavizhil_critical(1, s.at, s.length, f, 0), 254);
-        if (!is_one_of(f, "\x18")) expect("a critical of a seal", ennavizhil_critical(0, seal.at, seal.length, f, 0), 254);
-        if (!is_one_of(f, "\x08\x15\x22")) expect("a count", ennavizhil_count(1, s.at, s.length, f), 254);
-        if (!is_one_of(f, "\x08\x15")) expect("a count of a seal", ennavizhil_count(0, seal.at, seal.length, f), 254);
-    }
-    expect_all("a signature record as a seal", 0, s, 2);
-    expect_all("a seal as a signature record", 1, seal, 2);
-    expect_all("no bytes", 0, none, 1);
-    for (unsigned kind = 2; kind < 256; kind++) {
-        expect_all("another kind", (uint8_t)kind, s, 254);
-        expect_all("another kind of no bytes", (uint8_t)kind, none, 254);
-        expect("what another kind is about", ennavizhil_about((uint8_t)kind, none.at, none.length), 254);
-    }
-}
-
-/* What the refusal is about when a byte is changed. */
-static void about_changed(slice s, size_t at, uint8_t byte, uint64_t number, uint64_t item) {
-    uint8_t changed[LARGEST];
-    memcpy(changed, s.at, s.length);
-    changed[at] = byte;
-    expect("a changed record", num(ennavizhil_signature_check(changed, s.length)), number);
-    expect("what a changed record is about", ennavizhil_about(1, changed, s.length), item << 8);
-}
-
-static size_t start_of(slice s, uint8_t field) { return (size_t)ennavizhil_above(ennavizhil_field_start(1, s.at, s.length, field, 0)); }
-
-static void abouts(slice s) {
-    expect("what an accepted record is about", ennavizhil_about(1, s.at, s.length), 254);
-    for (size_t length = 0; length < s.length; length++) {
-        unsigned number = num(ennavizhil_about(1, s.at, length));
-        expect("what a cut record is about", number, 0);
-    }
-    expect("what no bytes are about", ennavizhil_about(1, NULL, 0), (uint64_t)ENNAVIZHIL_FIELD_THE_RECORD << 8);
-    size_t header = start_of(s, ENNAVIZHIL_FIELD_HEADER), part = start_of(s, ENNAVIZHIL_FIELD_SIGNED_PART);
-    size_t head = s.at[part + 1] < 128 ? 2 : (size_t)s.at[part + 1] - 128 + 2;
-    about_changed(s, 0, 0x31, ENNAVIZHIL_REFUSED_OTHER_TAG, ENNAVIZHIL_FIELD_THE_RECORD);
-    about_changed(s, header, 0x31, ENNAVIZHIL_REFUSED_OTHER_TAG, ENNAVIZHIL_FIELD_HEADER);
-    about_changed(s, header + 4, 'X', ENNAVIZHIL_REFUSED_NOT_ES, ENNAVIZHIL_FIELD_HEADER_NAME);
-    about_changed(s, header + 8, 5, ENNAVIZHIL_REFUSED_NOT_ALLOWED, ENNAVIZHIL_FIELD_SEAL_VERSION);
-    about_changed(s, part + head + 2, 5, ENNAVIZHIL_REFUSED_NOT_ALLOWED, ENNAVIZHIL_FIELD_SIGNATURE_VERSION);
-    about_changed(s, start_of(s, ENNAVIZHIL_FIELD_SIGNING_TIME), 'X', ENNAVIZHIL_REFUSED_BAD_TIME, ENNAVIZHIL_FIELD_SIGNING_TIME);
-    about_changed(s, start_of(s, ENNAVIZHIL_FIELD_STAMP) - 1, 1, ENNAVIZHIL_REFUSED_BAD_BITS, ENNAVIZHIL_FIELD_STAMP);
-}
-
-typedef uint64_t says(uint8_t, uint8_t, uint8_t *, size_t);
-
-/* Every text: with just its room, a byte less, and more; and numbers and languages that have none. */
-static void texts(says *say, unsigned count) {
-    for (unsigned language = 0; language < 256; language++) {
-        for (unsigned number = 0; number < 256; number++) {
-            uint8_t l = (uint8_t)language, n = (uint8_t)number, text[ENNAVIZHIL_TEXT + 1];
-            memset(text, 0xA5, sizeof text);
-            uint64_t answer = say(l, n, text, ENNAVIZHIL_TEXT);
-            if (language > 1 || number >= count) {
-                expect("no text", answer, 254);
-                expect("a destination that is kept", text[0], 0xA5);
-                continue;
-            }
-            expect("a text", num(answer), 0);
-            size_t size_of = (size_t)ennavizhil_above(answer);
-            expect("the byte after a text", text[size_of], 0xA5);
-            expect("a space at the end of a text", text[size_of - 1] == ' ', 0);
-            memset(text, 0xA5, sizeof text);
-            expect("a text with no room", say(l, n, text, size_of - 1), (uint64_t)size_of << 8 | ENNAVIZHIL_REFUSED_NO_ROOM);
-            expect("a text with no bytes of room", say(l, n, NULL, 0), (uint64_t)size_of << 8 | ENNAVIZHIL_REFUSED_NO_ROOM);
-            expect("a destination that is too short", text[0], 0xA5);
-            expect("a text with just its room", say(l, n, text, size_of), (uint64_t)size_of << 8);
-        }
-    }
-}
-
-/* Prints every text, after its number. */
-static int print_texts(says *say) {
-    for (unsigned number = 0; number < 256; number++) {
-        for (uint8_t language = 0; language < 2; language++) {
-            uint8_t text[ENNAVIZHIL_TEXT];
-            uint64_t answer = say(language, (uint8_t)number, text, sizeof text);
-            if (num(answer) != ENNAVIZHIL_DONE) return 0;
-            if (language == 0) printf("%u", number);
-            printf("|");
-            fwrite(text, 1, (size_t)ennavizhil_above(answer), stdout);
-        }
-        printf("\n");
-    }
-    return 0;
-}
-
-/* Findings in which all is good. */
-static void good_findings(uint64_t *findings) {
-    static const uint64_t good[ENNAVIZHIL_FINDINGS] = {1, 1, 20240701000000, 1, 1, 20230101000000, 20251231235959, 0, 0, 1,
-                                                       1, 20230101000000, 20251231235959, 0, 0, 0, 0, 0, 0};
-    memcpy(findings, good, sizeof good);
-}
-
-static void verdicts(slice s, slice seal) {
+    for (unsigned kind = 1; kind < 256; kind++)
+        expect("a field by a kind", ennavizhil_field_start((uint8_t)kind, s, n, 31, 0), ennavizhil_field_start(1, s, n, 31, 0));
     for (size_t length = 0; length < 40; length++) {
         uint64_t findings[40] = {0};
-        uint64_t answer = ennavizhil_signature_verdict(s.at, s.length, NULL, 0, NULL, 0, length == 0 ? NULL : findings, length);
+        uint64_t answer = ennavizhil_signature_verdict(s, n, NULL, 0, NULL, 0, length == 0 ? NULL : findings, length);
         expect("findings of a length", num(answer), length == ENNAVIZHIL_FINDINGS ? 18 : 253);
     }
     for (size_t i = 0; i < ENNAVIZHIL_FINDINGS; i++) {
         uint64_t findings[ENNAVIZHIL_FINDINGS] = {0};
         findings[i] = 3;
         int bounded = strchr("\x01\x03\x04\x07\x09\x0a\x0d\x0f\x11", (int)i) != NULL;
-        expect("a finding outside its values", num(ennavizhil_seal_verdict(s.at, s.length, NULL, 0, NULL, 0, findings, ENNAVIZHIL_FINDINGS)), bounded ? 253 : 2);
+        expect("a finding outside its values", num(ennavizhil_seal_verdict(s, n, NULL, 0, NULL, 0, findings, ENNAVIZHIL_FINDINGS)), bounded ? 253 : 2);
     }
-    uint64_t findings[ENNAVIZHIL_FINDINGS];
-    good_findings(findings);
-    uint64_t plain = ennavizhil_seal_verdict(seal.at, seal.length, NULL, 0, NULL, 0, findings, ENNAVIZHIL_FINDINGS);
-    expect("a verdict on a seal", ennavizhil_is_verdict(ennavizhil_number(plain)), 1);
-    findings[ENNAVIZHIL_FINDING_SEAL_WITHDRAWN] = 1;
-    findings[ENNAVIZHIL_FINDING_SEAL_WITHDRAWN_AT] = 20230101000000;
-    expect("a verdict on a withdrawn seal", ennavizhil_seal_verdict(seal.at, seal.length, NULL, 0, NULL, 0, findings, ENNAVIZHIL_FINDINGS), plain);
-    findings[ENNAVIZHIL_FINDING_SEAL_WITHDRAWN_AT] = 0;
-    expect("no time of a withdrawal", ennavizhil_seal_verdict(seal.at, seal.length, NULL, 0, NULL, 0, findings, ENNAVIZHIL_FINDINGS), 18);
-    good_findings(findings);
-    findings[ENNAVIZHIL_FINDING_SIGNER_LAST] = 20250230000000;
-    expect("no date of the signer", ennavizhil_seal_verdict(seal.at, seal.length, NULL, 0, NULL, 0, findings, ENNAVIZHIL_FINDINGS), 18);
-    good_findings(findings);
-    findings[ENNAVIZHIL_FINDING_STAMP_STATE] = ENNAVIZHIL_STAMP_GOOD;
-    expect("no time of a good stamp", ennavizhil_seal_verdict(seal.at, seal.length, NULL, 0, NULL, 0, findings, ENNAVIZHIL_FINDINGS), 18);
-    findings[ENNAVIZHIL_FINDING_STAMP_STATE] = ENNAVIZHIL_STAMP_BAD;
-    expect("no time of a bad stamp", ennavizhil_seal_verdict(seal.at, seal.length, NULL, 0, NULL, 0, findings, ENNAVIZHIL_FINDINGS), plain);
-}
-
-static void tables(slice s) {
     for (size_t index = 0; index < 3; index++) {
         size_t table[ENNAVIZHIL_TABLE + 1];
         for (size_t i = 0; i <= ENNAVIZHIL_TABLE; i++) table[i] = 7;
-        expect("a table that is too short", ennavizhil_signature_places(s.at, s.length, index, table, ENNAVIZHIL_TABLE - 1), (uint64_t)ENNAVIZHIL_TABLE << 8 | 20);
-        expect("a table of a refused record", num(ennavizhil_seal_places(s.at, s.length, index, table, ENNAVIZHIL_TABLE)), 2);
+        expect("a table that is too short", ennavizhil_signature_places(s, n, index, table, ENNAVIZHIL_TABLE - 1), (uint64_t)ENNAVIZHIL_TABLE << 8 | 20);
+        expect("a table of a refused record", num(ennavizhil_seal_places(s, n, index, table, ENNAVIZHIL_TABLE)), 2);
         for (size_t i = 0; i <= ENNAVIZHIL_TABLE; i++) expect("a table that is kept", table[i], 7);
-        expect("a table", ennavizhil_signature_places(s.at, s.length, index, table, ENNAVIZHIL_TABLE + 1), (uint64_t)s.length << 8);
+        expect("a table", ennavizhil_signature_places(s, n, index, table, ENNAVIZHIL_TABLE + 1), (uint64_t)n << 8);
         expect("what follows a table", table[ENNAVIZHIL_TABLE], 7);
         expect("the index of a table", table[ENNAVIZHIL_TABLE - 1], index);
-        expect("the vendor in the table of an index", table[4 * ENNAVIZHIL_FIELD_VENDOR], 1);
-        for (uint8_t f = 0; f < ENNAVIZHIL_FIELDS; f++) {
-            uint64_t start = ennavizhil_field_start(1, s.at, s.length, f, index), length = ennavizhil_field_length(1, s.at, s.length, f, index);
+        for (uint8_t f = 0; f < 43; f++) {
+            uint64_t start = ennavizhil_field_start(1, s, n, f, index), length = ennavizhil_field_length(1, s, n, f, index);
             expect("a field of a table", table[4 * f], num(start) == 0);
             expect("the start of a field of a table", table[4 * f + 1], num(start) == 0 ? ennavizhil_above(start) : 0);
             expect("the length of a field of a table", table[4 * f + 2], num(start) == 0 ? ennavizhil_above(length) : 0);
         }
     }
-}
-
-/* What no case asks for: numbers that are no field's, other kinds, what a refusal is about, texts, rows that are no findings, a step past the end. */
-static int house(void) {
-    static uint8_t bytes_of[LARGEST];
-    slice s = {bytes_of, fread(bytes_of, 1, sizeof bytes_of, stdin)};
-    expect("the record", num(ennavizhil_signature_check(s.at, s.length)), 0);
-    uint64_t length = ennavizhil_field_length(1, s.at, s.length, ENNAVIZHIL_FIELD_SEAL, 0);
-    slice seal = {s.at + start_of(s, ENNAVIZHIL_FIELD_SEAL), (size_t)ennavizhil_above(length)};
-    expect("its seal", num(ennavizhil_seal_check(seal.at, seal.length)), 0);
-    for (unsigned number = 0; number < 256; number++) {
-        expect("a refusal", ennavizhil_is_refusal((uint8_t)number), number >= 1 && number <= 20);
-        expect("a verdict", ennavizhil_is_verdict((uint8_t)number), number == 0 || (number >= 21 && number <= 34));
-    }
-    kinds_and_fields(s, seal);
-    abouts(s);
-    texts(ennavizhil_words, 35);
-    texts(ennavizhil_label, 46);
-    verdicts(s, seal);
-    tables(s);
-    for (size_t past = 0; past < 3; past++)
-        expect("a step past the end", ennavizhil_run_step(s.at, s.length, s.length + past, 7), (uint64_t)(s.length + past) << 8 | ENNAVIZHIL_RUN_END);
     if (wrong == 0) printf("%d answers that no case asks for, 0 differences\n", right);
     return wrong == 0 ? 0 : 1;
 }
@@ -416,8 +272,6 @@ static int house(void) {
 int main(int count, char **words) {
     uint8_t head[4];
     if (count == 2 && strcmp(words[1], "house") == 0) return house();
-    if (count == 2 && strcmp(words[1], "words") == 0) return print_texts(ennavizhil_words);
-    if (count == 2 && strcmp(words[1], "labels") == 0) return print_texts(ennavizhil_label);
     for (;;) {
         size_t got = fread(head, 1, sizeof head, stdin);
         if (got == 0) break;

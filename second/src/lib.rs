@@ -12,7 +12,5 @@ pub mod refusal;
 pub mod run;
 pub mod screen;
 pub mod sheet;
-pub mod shown;
 pub mod verdict;
-pub mod words;
 pub mod writer;

@@ -8,8 +8,7 @@ use second::generate::tree::signature_input;
 use second::generate::values::SignatureValue;
 use second::generate::{generate, SEED};
 use second::refusal::Refusal;
-use second::screen::{screen, View, NARROWEST};
-use second::words::{Language, LABELS, NUMBERS};
+use second::screen::{screen, Language, Pages};
 use second::writer::{fill_from_signature, write_signature};
 use std::fs::{self, File};
 use std::io::{self, BufReader, BufWriter, Read, Write};
@@ -30,10 +29,10 @@ const REFUSED: u8 = 1;
 const FAILED: u8 = 2;
 
 const USAGE: &str = "usage: second check [FILE] | second sheet [FILE] | second write [FILE]
-       second screen en|zh [WIDTH [full]] FILE | second labels | second words
+       second screen en FILE | second screen zh FILE
        second lines DIRECTORY | second answer CASES | second plain CASES
        second make DIRECTORY | second records DIRECTORY | second signatures CASES EACH DIRECTORY
-Exit status: 0 done, for check and screen accepted; 1 refused; 2 failed.";
+Exit status: 0 done, for check accepted; 1 refused; 2 failed.";
 
 /// Runs the command that the arguments name.
 fn main() -> ExitCode {
@@ -76,13 +75,8 @@ fn run(words: &[&str]) -> io::Result<ExitCode> {
             write_signatures(cases, each, Path::new(directory))
         }
         ["lines", directory] => print_lines(Path::new(directory)),
-        ["screen", language, path] => return show(path, language, None, false),
-        ["screen", language, width, path] => return show(path, language, Some(width), false),
-        ["screen", language, width, "full", path] => {
-            return show(path, language, Some(width), true)
-        }
-        ["labels"] => print_labels(),
-        ["words"] => print_words(),
+        ["screen", "en", path] => return show(path, Language::English),
+        ["screen", "zh", path] => return show(path, Language::Chinese),
         ["-h" | "--help"] => writeln!(io::stdout(), "{USAGE}"),
         _ => Err(io::Error::other(USAGE)),
     }?;
@@ -116,61 +110,25 @@ fn check(input: impl Read, name: &str) -> io::Result<ExitCode> {
     })
 }
 
-/// Gives the language that a word names.
-fn language(word: &str) -> io::Result<Language> {
-    match word {
-        "en" => Ok(Language::English),
-        "zh" => Ok(Language::Chinese),
-        _ => Err(io::Error::other(format!("{word}: no language; there are en and zh"))),
-    }
-}
-
-/// Gives the columns that a word says.
-fn columns(word: &str) -> io::Result<usize> {
-    match word.parse() {
-        Ok(width) if width >= NARROWEST => Ok(width),
-        _ => Err(io::Error::other(format!("{word}: no number from {NARROWEST} on"))),
-    }
-}
-
-/// Prints the screen of one signature record; gives whether it is accepted.
-fn show(path: &str, named: &str, width: Option<&str>, full: bool) -> io::Result<ExitCode> {
-    let view = View {
-        language: language(named)?,
-        width: width.map_or(Ok(NARROWEST), columns)?,
-        full,
-    };
+/// Prints the screen of one signature record, with the labels and words of the pages in `docs`; gives whether it is accepted.
+fn show(path: &str, language: Language) -> io::Result<ExitCode> {
     let mut record = Vec::new();
     open(path)?
         .take(MOST_READ)
         .read_to_end(&mut record)
         .map_err(|error| about(path, error))?;
-    let (text, accepted) = screen(&record, view);
+    let docs = Path::new(env!("CARGO_MANIFEST_DIR")).with_file_name("docs");
+    let pages = Pages {
+        fields: fs::read_to_string(docs.join("FIELDS.md"))?,
+        numbers: fs::read_to_string(docs.join("NUMBERS.md"))?,
+    };
+    let (text, accepted) = screen(&record, language, &pages);
     write!(io::stdout(), "{text}")?;
     Ok(if accepted {
         ExitCode::SUCCESS
     } else {
         ExitCode::from(REFUSED)
     })
-}
-
-/// Prints the label of each item, after its component.
-fn print_labels() -> io::Result<()> {
-    let mut out = io::stdout().lock();
-    for label in &LABELS {
-        let component = label.component.rsplit('/').next().unwrap_or_default();
-        writeln!(out, "{component}|{}|{}", label.english, label.chinese)?;
-    }
-    Ok(())
-}
-
-/// Prints each number in words.
-fn print_words() -> io::Result<()> {
-    let mut out = io::stdout().lock();
-    for (number, (english, chinese)) in NUMBERS.iter().enumerate() {
-        writeln!(out, "{number}|{english}|{chinese}")?;
-    }
-    Ok(())
 }
 
 /// Writes what a writer makes of an input, or the line of the refusal; gives whether it was written.

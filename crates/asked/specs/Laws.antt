@@ -1,167 +1,141 @@
 -- What is asked with numbers, case by case. Assumes nothing.
-use Rattle.std.specs.Prelude.{◌≡◌, refl, ℕ, ◌≤◌, ◌<◌, List, length}
-use borrow.Author.Tests.{ne_eqb, lt-ltb, le-ltb}
+use Rattle.std.specs.Prelude.{◌≡◌, ℕ, ◌≤◌, ◌<◌, List}
+use Rattle.std.proofs.Common.{ap, ◌∙◌}
+use borrow.Author.Tests.{eq-eqb, ne_eqb, lt-ltb, le-ltb}
 use Rattle.terms.specs.declared.Field.{Field}
 use Rattle.terms.specs.declared.Field.TheVariants.{SealType, ListKind, Width, Height, CertificateList, SealCustomData, SealCustomCritical, SignedCustomData, SignedCustomCritical}
 use Rattle.terms.specs.Names.{name_of, names_count}
-use Rattle.terms.specs.Numbers.{one_of, absent, largest_record}
-use Rattle.terms.specs.Answer.{Res, good, fault, pick, Told, told_none, refusal, answered}
-use Rattle.terms.specs.Laws.Answer.{never}
-use Rattle.layouts.specs.Layout.{Members, Values}
+use Rattle.terms.specs.Numbers.{absent}
+use Rattle.terms.specs.Answer.{pick, Told, told_none}
 use Rattle.layouts.specs.Fields.{is_field}
-use Rattle.layouts.specs.About.{record_about}
-use Rattle.layouts.specs.Whole.{told_outcome}
-use Rattle.layouts.specs.declared.Outcome.{Outcome}
-use Rattle.layouts.specs.declared.Outcome.TheVariants.{Length, Refused}
-use Rattle.layouts.specs.declared.Whose.{Whose}
-use Rattle.layouts.specs.declared.Whose.TheVariants.{Nothing}
 use Rattle.records.specs.Record.{signature}
 use Rattle.records.specs.declared.Record.{Record}
 use Rattle.records.specs.declared.Record.TheVariants.{Seal, Signature}
-use Rattle.records.specs.Handing.{layout_of, read_record, told_record, record_answer, seek, tell, told_place, value_answer, critical_answer, count_answer}
-use Rattle.asked.specs.declared.Kind.{Kind}
-use Rattle.asked.specs.declared.Kind.TheVariants.{Of, Other}
-use Rattle.asked.specs.Asked.{kind_of, of_kind, toldNone, none_in, only_if, field_in, value_in, critical_in, count_in, asked_about}
+use Rattle.records.specs.Handing.{layout_of, seek, tell, told_place, value_answer, critical_answer, count_answer, match_answer}
+use Rattle.asked.specs.Asked.{kind_of, is_among, only_if, asked_field, asked_match, asked_value, asked_critical, asked_count}
 
 -- ---- the record by its kind
 
 module _ (n : ℕ) where
-  pub kind-seal : n ≡ 0 → Of Seal ≡ kind_of n
+  pub kind-seal : n ≡ 0 → Seal ≡ kind_of n
   unfolding kind_of pick
-  kind-seal h = rw h
+  kind-seal h = rw (eq-eqb n 0 h)
 
-  pub kind-signature : n ≡ 1 → Of Signature ≡ kind_of n
+  pub kind-signature : (n ≡ 0 → ⊥) → Signature ≡ kind_of n
   unfolding kind_of pick
-  kind-signature h = rw h
+  kind-signature h = rw (ne_eqb n 0 h)
 
-  pub kind-other : (n ≡ 0 → ⊥) → (n ≡ 1 → ⊥) → Other ≡ kind_of n
-  unfolding kind_of pick
-  kind-other h g = rw (ne_eqb n 0 h, ne_eqb n 1 g)
+module _ (n : ℕ) (t : Told) (f : Record → Told) where
+  by_seal : n ≡ 0 → t ≡ f Seal → t ≡ f (kind_of n)
+  by_seal h e = e ∙ ap f (kind-seal n h)
 
-module _ (n : ℕ) (z : Kind) (e : z ≡ kind_of n) where
-  pub by_kind : (f : Record → Told) (x : Record) (t : Told) → z ≡ Of x → t ≡ f x → t ≡ of_kind (kind_of n) f
-  by_kind f x t h a = rw (← e, h) a
-
-  pub by_none : (f : Record → Told) → z ≡ Other → told_none absent ≡ of_kind (kind_of n) f
-  by_none f h = rw (← e, h)
-
-  pub about-kind : (w : List ℕ) (x : Record) (y : Whose) → z ≡ Of x → y ≡ record_about largest_record (layout_of x) w → y ≡ asked_about n w
-  about-kind w x y h a = rw (← e, h) a
-
-  pub about_none : (w : List ℕ) → z ≡ Other → Nothing ≡ asked_about n w
-  about_none w h = rw (← e, h)
-
--- ---- a record that has no such field
-
-pub outcome_by : (x : Record) (w : List ℕ) (m : Members) (t : Told) → m ≡ layout_of x → t ≡ told_record largest_record m w → t ≡ record_answer (layout_of x) w
-outcome_by x w m t e a = rw (← e) a
-
-module _ (x : Record) (w : List ℕ) (o : Outcome) (t : told_outcome o ≡ record_answer (layout_of x) w) where
-  pub none_absent : (l : ℕ) → o ≡ Length l → told_none absent ≡ none_in x w
-  none_absent l h = go (read_record (layout_of x) w) (rw h at t)
-    where
-      go : (y : Res (Values (layout_of x))) → told_outcome (Length l) ≡ answered (λ v. length w) y → told_none absent ≡ toldNone y
-      go (good v) e = refl
-      go (fault n p) e = never (cc)
-
-  pub none_refused : (n p : ℕ) → o ≡ Refused n p → refusal n p ≡ none_in x w
-  none_refused n p h = go (read_record (layout_of x) w) (rw h at t)
-    where
-      go : (y : Res (Values (layout_of x))) → told_outcome (Refused n p) ≡ answered (λ v. length w) y → refusal n p ≡ toldNone y
-      go (good v) e = never (cc)
-      go (fault n' p') e = e
+  by_signature : (n ≡ 0 → ⊥) → t ≡ f Signature → t ≡ f (kind_of n)
+  by_signature h e = e ∙ ap f (kind-signature n h)
 
 -- ---- a field by its number
 
-module _ (x : Record) (n k : ℕ) (w : List ℕ) (t : Told) where
-  pub field_none : names_count ≤ n → t ≡ none_in x w → t ≡ field_in x n k w
-  unfolding field_in only_if pick
-  field_none h e = rw (le-ltb n names_count h) e
+module _ (kind n k : ℕ) (w : List ℕ) where
+  pub field_none : names_count ≤ n → told_none absent ≡ asked_field kind n k w
+  unfolding asked_field only_if pick
+  field_none h = rw (le-ltb n names_count h)
 
-  pub field_by : (f : Field) → n < names_count → f ≡ name_of n → t ≡ tell told_place (seek (layout_of x) (is_field f k) w) → t ≡ field_in x n k w
-  unfolding field_in only_if pick
-  field_by f h g a = rw (lt-ltb n names_count h, ← g) a
+  pub field_by : (x : Record) (f : Field) (t : Told) → n < names_count → x ≡ kind_of kind → f ≡ name_of n → t ≡ tell told_place (seek (layout_of x) (is_field f k) w) → t ≡ asked_field kind n k w
+  unfolding asked_field only_if pick
+  field_by x f t h e g a = rw (lt-ltb n names_count h, ← e, ← g) a
+
+pub match_by : (kind : ℕ) (given w : List ℕ) (x : Record) (t : Told) → x ≡ kind_of kind → t ≡ match_answer (layout_of x) given w → t ≡ asked_match kind given w
+unfolding asked_match
+match_by kind given w x t e a = rw (← e) a
 
 -- ---- integers
 
-module _ (x : Record) (n : ℕ) (w : List ℕ) (t : Told) where
-  pub value_type : n ≡ 5 → t ≡ value_answer (layout_of x) SealType w → t ≡ value_in x n w
-  unfolding value_in only_if pick
-  value_type h a = rw h a
+module _ (kind n : ℕ) (w : List ℕ) (x : Record) (t : Told) (e : x ≡ kind_of kind) where
+  pub value_type : n ≡ 5 → t ≡ value_answer (layout_of x) SealType w → t ≡ asked_value kind n w
+  unfolding asked_value only_if is_among pick
+  value_type h a = rw (h, ← e) a
 
-  pub value-kind : n ≡ 7 → t ≡ value_answer (layout_of x) ListKind w → t ≡ value_in x n w
-  unfolding value_in only_if pick
-  value-kind h a = rw h a
+  pub value-kind : n ≡ 7 → t ≡ value_answer (layout_of x) ListKind w → t ≡ asked_value kind n w
+  unfolding asked_value only_if is_among pick
+  value-kind h a = rw (h, ← e) a
 
-  pub value_width : n ≡ 19 → t ≡ value_answer (layout_of x) Width w → t ≡ value_in x n w
-  unfolding value_in only_if pick
-  value_width h a = rw h a
+  pub value_width : n ≡ 19 → t ≡ value_answer (layout_of x) Width w → t ≡ asked_value kind n w
+  unfolding asked_value only_if is_among pick
+  value_width h a = rw (h, ← e) a
 
-  pub value_height : n ≡ 20 → t ≡ value_answer (layout_of x) Height w → t ≡ value_in x n w
-  unfolding value_in only_if pick
-  value_height h a = rw h a
+  pub value_height : n ≡ 20 → t ≡ value_answer (layout_of x) Height w → t ≡ asked_value kind n w
+  unfolding asked_value only_if is_among pick
+  value_height h a = rw (h, ← e) a
 
-  pub value_none : (n ≡ 5 → ⊥) → (n ≡ 7 → ⊥) → (n ≡ 19 → ⊥) → (n ≡ 20 → ⊥) → t ≡ none_in x w → t ≡ value_in x n w
-  unfolding value_in only_if pick
-  value_none a b c d e = rw (ne_eqb n 5 a, ne_eqb n 7 b, ne_eqb n 19 c, ne_eqb n 20 d) e
+pub value_none : (kind n : ℕ) (w : List ℕ) → (n ≡ 5 → ⊥) → (n ≡ 7 → ⊥) → (n ≡ 19 → ⊥) → (n ≡ 20 → ⊥) → told_none absent ≡ asked_value kind n w
+unfolding asked_value only_if is_among pick
+value_none kind n w a b c d = rw (ne_eqb n 5 a, ne_eqb n 7 b, ne_eqb n 19 c, ne_eqb n 20 d)
 
 -- ---- critical
 
 module _ (n k : ℕ) (w : List ℕ) (t : Told) where
-  pub critical-seal : n ≡ 24 → t ≡ critical_answer (layout_of Seal) SealCustomCritical k w → t ≡ critical_in Seal n k w
-  unfolding critical_in only_if pick
+  pub critical-seal : n ≡ 24 → t ≡ critical_answer (layout_of Seal) SealCustomCritical k w → t ≡ asked_critical Seal n k w
+  unfolding asked_critical only_if is_among pick
   critical-seal h a = rw h a
 
-  pub critical_in-seal : n ≡ 24 → t ≡ critical_answer (layout_of Signature) SealCustomCritical k w → t ≡ critical_in Signature n k w
-  unfolding critical_in only_if pick
+  pub critical_in-seal : n ≡ 24 → t ≡ critical_answer (layout_of Signature) SealCustomCritical k w → t ≡ asked_critical Signature n k w
+  unfolding asked_critical only_if is_among pick
   critical_in-seal h a = rw h a
 
-  pub critical_signed : n ≡ 37 → t ≡ critical_answer signature SignedCustomCritical k w → t ≡ critical_in Signature n k w
-  unfolding critical_in only_if pick
+  pub critical_signed : n ≡ 37 → t ≡ critical_answer signature SignedCustomCritical k w → t ≡ asked_critical Signature n k w
+  unfolding asked_critical only_if is_among pick
   critical_signed h a = rw h a
 
-  pub critical_no_seal : (n ≡ 24 → ⊥) → t ≡ none_in Seal w → t ≡ critical_in Seal n k w
-  unfolding critical_in only_if pick
-  critical_no_seal a e = rw (ne_eqb n 24 a) e
+module _ (n k : ℕ) (w : List ℕ) (a : n ≡ 24 → ⊥) where
+  pub critical_no_seal : told_none absent ≡ asked_critical Seal n k w
+  unfolding asked_critical only_if is_among pick
+  critical_no_seal = rw (ne_eqb n 24 a)
 
-  pub critical_no_signature : (n ≡ 24 → ⊥) → (n ≡ 37 → ⊥) → t ≡ none_in Signature w → t ≡ critical_in Signature n k w
-  unfolding critical_in only_if pick
-  critical_no_signature a b e = rw (ne_eqb n 24 a, ne_eqb n 37 b) e
+  pub critical_no_signature : (n ≡ 37 → ⊥) → told_none absent ≡ asked_critical Signature n k w
+  unfolding asked_critical only_if is_among pick
+  critical_no_signature b = rw (ne_eqb n 24 a, ne_eqb n 37 b)
 
-  pub critical_of : (x y : Record) → x ≡ y → t ≡ critical_in y n k w → t ≡ critical_in x n k w
-  critical_of x y e a = rw e a
+module _ (kind n k : ℕ) (w : List ℕ) (t : Told) where
+  pub critical-kind-seal : kind ≡ 0 → t ≡ asked_critical Seal n k w → t ≡ asked_critical (kind_of kind) n k w
+  critical-kind-seal h e = by_seal kind t (λ x. asked_critical x n k w) h e
+
+  pub critical-kind-signature : (kind ≡ 0 → ⊥) → t ≡ asked_critical Signature n k w → t ≡ asked_critical (kind_of kind) n k w
+  critical-kind-signature h e = by_signature kind t (λ x. asked_critical x n k w) h e
 
 -- ---- counts
 
 module _ (n : ℕ) (w : List ℕ) (t : Told) where
-  pub count_seal_list : n ≡ 8 → t ≡ count_answer (layout_of Seal) CertificateList w → t ≡ count_in Seal n w
-  unfolding count_in only_if pick
+  pub count_seal_list : n ≡ 8 → t ≡ count_answer (layout_of Seal) CertificateList w → t ≡ asked_count Seal n w
+  unfolding asked_count only_if is_among pick
   count_seal_list h a = rw h a
 
-  pub count-seal-items : n ≡ 21 → t ≡ count_answer (layout_of Seal) SealCustomData w → t ≡ count_in Seal n w
-  unfolding count_in only_if pick
+  pub count-seal-items : n ≡ 21 → t ≡ count_answer (layout_of Seal) SealCustomData w → t ≡ asked_count Seal n w
+  unfolding asked_count only_if is_among pick
   count-seal-items h a = rw h a
 
-  pub count_list : n ≡ 8 → t ≡ count_answer (layout_of Signature) CertificateList w → t ≡ count_in Signature n w
-  unfolding count_in only_if pick
+  pub count_list : n ≡ 8 → t ≡ count_answer (layout_of Signature) CertificateList w → t ≡ asked_count Signature n w
+  unfolding asked_count only_if is_among pick
   count_list h a = rw h a
 
-  pub count-items : n ≡ 21 → t ≡ count_answer (layout_of Signature) SealCustomData w → t ≡ count_in Signature n w
-  unfolding count_in only_if pick
+  pub count-items : n ≡ 21 → t ≡ count_answer (layout_of Signature) SealCustomData w → t ≡ asked_count Signature n w
+  unfolding asked_count only_if is_among pick
   count-items h a = rw h a
 
-  pub count_signed : n ≡ 34 → t ≡ count_answer signature SignedCustomData w → t ≡ count_in Signature n w
-  unfolding count_in only_if pick
+  pub count_signed : n ≡ 34 → t ≡ count_answer signature SignedCustomData w → t ≡ asked_count Signature n w
+  unfolding asked_count only_if is_among pick
   count_signed h a = rw h a
 
-  pub count_of : (x y : Record) → x ≡ y → t ≡ count_in y n w → t ≡ count_in x n w
-  count_of x y e a = rw e a
+module _ (n : ℕ) (w : List ℕ) (a : n ≡ 8 → ⊥) (b : n ≡ 21 → ⊥) where
+  pub count_no_seal : told_none absent ≡ asked_count Seal n w
+  unfolding asked_count only_if is_among pick
+  count_no_seal = rw (ne_eqb n 8 a, ne_eqb n 21 b)
 
-  module _ (a : n ≡ 8 → ⊥) (b : n ≡ 21 → ⊥) where
-    pub count_no_seal : t ≡ none_in Seal w → t ≡ count_in Seal n w
-    unfolding count_in only_if pick
-    count_no_seal e = rw (ne_eqb n 8 a, ne_eqb n 21 b) e
+  pub count_no_signature : (n ≡ 34 → ⊥) → told_none absent ≡ asked_count Signature n w
+  unfolding asked_count only_if is_among pick
+  count_no_signature c = rw (ne_eqb n 8 a, ne_eqb n 21 b, ne_eqb n 34 c)
 
-    pub count_no_signature : (n ≡ 34 → ⊥) → t ≡ none_in Signature w → t ≡ count_in Signature n w
-    unfolding count_in only_if pick
-    count_no_signature c e = rw (ne_eqb n 8 a, ne_eqb n 21 b, ne_eqb n 34 c) e
+module _ (kind n : ℕ) (w : List ℕ) (t : Told) where
+  pub count-kind-seal : kind ≡ 0 → t ≡ asked_count Seal n w → t ≡ asked_count (kind_of kind) n w
+  count-kind-seal h e = by_seal kind t (λ x. asked_count x n w) h e
+
+  pub count-kind-signature : (kind ≡ 0 → ⊥) → t ≡ asked_count Signature n w → t ≡ asked_count (kind_of kind) n w
+  count-kind-signature h e = by_signature kind t (λ x. asked_count x n w) h e

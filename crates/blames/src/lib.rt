@@ -1,14 +1,13 @@
-// What was refused, behind the table of places: a field or an item of one content, by its number.
-ghost use Rattle.std.specs.Prelude.{◌≡◌, ◌<◌};
-ghost use Rattle.terms.specs.Names.{known_code};
-ghost use Rattle.layouts.specs.Marks.{blamed, blamed_by, blamed_known};
+// The name of the field that was refused, behind the table of places.
+ghost use Rattle.std.specs.Prelude.{◌≡◌};
+ghost use Rattle.layouts.specs.Marks.{blamed};
 
 use places::TABLE_SIZE;
-use terms::{Field, KnownName, NAMES};
+use terms::Field;
 
-// Notes a number, once, where the table has one more than it needs.
-fn blame_by(places: &mut [usize], n: usize)
-    ensures { places.new ≡ blamed_by n places.old }
+// Notes the name of a field that is refused, once, where the table has a number more than it needs.
+pub fn blame(places: &mut [usize], f: Field)
+    ensures { places.new ≡ blamed f places.old }
 {
     if places.len() <= TABLE_SIZE {
         return;
@@ -16,30 +15,5 @@ fn blame_by(places: &mut [usize], n: usize)
     if places[TABLE_SIZE] != 0 {
         return;
     }
-    places[TABLE_SIZE] = n;
-}
-
-// Notes the name of a field that is refused.
-pub fn blame(places: &mut [usize], f: Field)
-    ensures { places.new ≡ blamed f places.old }
-{
-    blame_by(places, slots::number_of(f) + 1);
-}
-
-// The number of an item of one content.
-fn known_number(f: KnownName) -> usize
-    ensures { (result ≡ known_code f) × (result < 3) }
-{
-    match f {
-        KnownName::HeaderName => 0,
-        KnownName::SealVersion => 1,
-        KnownName::SignatureVersion => 2,
-    }
-}
-
-// Notes the name of an item of one content that is refused, behind the fields' numbers.
-pub fn blame_known(places: &mut [usize], f: KnownName)
-    ensures { places.new ≡ blamed_known f places.old }
-{
-    blame_by(places, NAMES + known_number(f) + 1);
+    places[TABLE_SIZE] = slots::number_of(f) + 1;
 }

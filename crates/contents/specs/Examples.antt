@@ -5,14 +5,14 @@ use Rattle.terms.specs.Answer.{pick, bind, need, every, enough, same, Told, refu
 use Rattle.terms.specs.Digits.{digits, number_from}
 use Rattle.terms.specs.Laws.Table.{Row, asks, answers, same_number, same_numbers, same_told, agree, agreed}
 use Rattle.contents.specs.Content.{told_check, ask, passes}
-use Rattle.contents.specs.Integer.{sign, shortest, well_formed, turned, value, in_bytes, shrink, content_of, any, is_kind, is_millimetres}
+use Rattle.contents.specs.Integer.{sign, shortest, well_formed, turned, value, eight, shrink, content_of, any, is_kind, is_millimetres}
 use Rattle.contents.specs.Text.{within, starts, follows, text_from, ia5, printable, utf8, parts_from, is_identifier}
 use Rattle.contents.specs.Time.{leap, month_length, possible, is_digit, part_from, zulu, not_later, time_from, time_check, time_rule, moment_in, moment_of, written, is_real, moment_at}
 use Rattle.contents.specs.Rules.{integer_rule, string_rule, octets_rule, identifier_rule, boolean_rule, also, only_rule}
 use Rattle.contents.specs.Leaves.{rule_of, bit_string, header_name, version, known_rule}
 
 evaluate : Unit {0}
-unfolding pick bind need every enough same same_number same_numbers same_told agree digits number_from ask passes sign shortest well_formed turned value in_bytes shrink content_of within starts follows text_from parts_from is_identifier leap month_length possible is_digit part_from zulu not_later time_from time_check time_rule moment_in moment_of written is_real integer_rule string_rule octets_rule identifier_rule boolean_rule also only_rule
+unfolding pick bind need every enough same same_number same_numbers same_told agree digits number_from ask passes sign shortest well_formed turned value eight shrink content_of within starts follows text_from parts_from is_identifier leap month_length possible is_digit part_from zulu not_later time_from time_check time_rule moment_in moment_of written is_real integer_rule string_rule octets_rule identifier_rule boolean_rule also only_rule
 evaluate = tt
 
 -- a rule that refuses with a number

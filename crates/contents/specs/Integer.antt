@@ -1,5 +1,5 @@
--- INTEGER: two's complement, the highest byte first, in the fewest bytes (01, "Encoding"; RULES 2.2; X.690, 8.3). Assumes nothing.
-use Rattle.std.specs.Prelude.{ℕ, ◌-◌, ◌/◌, ◌^◌, ◌<◌, Bool, true, false, not, ◌&&◌, List, [], ◌∷◌, ◌++◌, length, replicate, leb, ltb, eqb, ℤ, pos, negsuc}
+-- INTEGER: two's complement, the highest byte first, in the fewest bytes (01, "Encoding"; X.690, 8.3). Assumes nothing.
+use Rattle.std.specs.Prelude.{ℕ, ◌-◌, ◌^◌, ◌<◌, Bool, true, false, not, ◌&&◌, List, [], ◌∷◌, ◌++◌, length, replicate, leb, ltb, eqb, ℤ, pos, negsuc}
 use Rattle.std.proofs.Math.Option.{Option, none, some}
 use Rattle.std.specs.Int.Signed.{le_z, mag}
 use Rattle.terms.specs.Answer.{pick, same}
@@ -40,17 +40,9 @@ value (a ∷ c) = pick (ltb a 0x80) (pos (number 256 (a ∷ c))) (negsuc (number
 
 -- ---- the content of a number
 
--- a number in `k` bytes
-unfoldable pub in_bytes : ℕ → ℤ → List ℕ
-in_bytes k (pos n) = digits 256 k n
-in_bytes k (negsuc n) = turned (digits 256 k n)
-
--- a number that `k` bytes hold: `mag z` is z, or -1 - z of a negative z
-abbrev pub Fits : ℕ → ℤ → Type 0
-Fits k z = mag z < 256 ^ k / 2
-
-abbrev pub eight : ℤ → List ℕ
-eight z = in_bytes section_bytes z
+unfoldable pub eight : ℤ → List ℕ
+eight (pos n) = digits 256 section_bytes n
+eight (negsuc n) = turned (digits 256 section_bytes n)
 
 -- bytes that are not needed are taken off the front
 unfoldable pub shrink : List ℕ → List ℕ
@@ -61,17 +53,21 @@ shrink (a ∷ b ∷ c) = pick (eqb a (sign b)) (shrink (b ∷ c)) (a ∷ b ∷ c
 unfoldable pub content_of : ℤ → List ℕ
 content_of z = shrink (eight z)
 
--- ---- a content in `k` bytes: its section, in eight
+-- a number that eight bytes hold: `mag z` is z, or -1 - z of a negative z
+abbrev pub Fits : ℤ → Type 0
+Fits z = mag z < 2 ^ 63
+
+-- ---- the section of a content: eight bytes
 
 unfoldable pub sign_of : List ℕ → ℕ
 sign_of [] = 0x00
 sign_of (a ∷ c) = sign a
 
-unfoldable pub stretch : ℕ → List ℕ → List ℕ
-stretch k c = replicate (k - length c) (sign_of c) ++ c
+unfoldable pub stretch : List ℕ → List ℕ
+stretch c = replicate (section_bytes - length c) (sign_of c) ++ c
 
-unfoldable pub unstretch : ℕ → List ℕ → Option (List ℕ)
-unstretch k x = pick (eqb (length x) k) (some (shrink x)) none
+unfoldable pub unstretch : List ℕ → Option (List ℕ)
+unstretch x = pick (eqb (length x) section_bytes) (some (shrink x)) none
 
 -- ---- which numbers are allowed where
 

@@ -1,3 +1,2 @@
 pub mod Integer
 pub mod Leaves
-pub mod Refusals

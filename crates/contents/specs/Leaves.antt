@@ -1,10 +1,10 @@
--- The primitive items of document 01: what each holds, and its section in a sheet (RULES 2.2, 4.1). Assumes nothing.
+-- The primitive items of document 01: what each holds, and its section in a sheet. Assumes nothing.
 use Rattle.std.specs.Prelude.{Bool, List, [], ◌∷◌, ℕ, ℤ}
 use Rattle.std.proofs.Math.Option.{Option, some}
 use Rattle.terms.specs.Numbers.{not_allowed, not_es}
 use Rattle.terms.specs.Answer.{never_empty}
 use Rattle.contents.specs.Content.{Check}
-use Rattle.contents.specs.Integer.{section_bytes, stretch, unstretch, any}
+use Rattle.contents.specs.Integer.{stretch, unstretch, any}
 use Rattle.contents.specs.Text as Text
 use Rattle.contents.specs.Time.{time_rule}
 use Rattle.contents.specs.Rules.{integer_rule, string_rule, octets_rule, identifier_rule, boolean_rule, only_rule}
@@ -27,12 +27,12 @@ rule_of (number allowed) v = integer_rule allowed v
 -- "A string, identifier or time is a section of its content bytes (a bit string without its 00). An integer is a section of 8 bytes."
 abbrev pub section_of : Holding → List ℕ → List ℕ
 section_of (bytes rule) v = v
-section_of (number allowed) v = stretch section_bytes v
+section_of (number allowed) v = stretch v
 
 -- the value that a section has, if it has one
 abbrev pub value_in : Holding → List ℕ → Option (List ℕ)
 value_in (bytes rule) x = some x
-value_in (number allowed) x = unstretch section_bytes x
+value_in (number allowed) x = unstretch x
 
 -- ---- by name
 

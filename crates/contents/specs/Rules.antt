@@ -1,4 +1,4 @@
--- The rules of values, with 01's order of refusals in each: "6 before 7, .. 14 and 9 before 8" (RULES 3.3). Assumes nothing.
+-- The rules of values, with 01's order of refusals in each: "6 before 7, .. 14 and 9 before 8". Assumes nothing.
 use Rattle.std.specs.Prelude.{Bool, List, [], ◌∷◌, ℕ, ℤ}
 use Rattle.terms.specs.Numbers.{bad_integer, not_allowed, bad_character, bad_identifier, bad_boolean, no_bytes}
 use Rattle.terms.specs.Answer.{enough, same}

@@ -1,4 +1,4 @@
--- The alphabets of strings, and an identifier's parts (01, "Encoding"; RULES 2.2 and 2.3). Assumes nothing.
+-- The alphabets of strings, and an identifier's parts (01, "Encoding"). Assumes nothing.
 use Rattle.std.specs.Prelude.{ℕ, Bool, true, false, not, ◌&&◌, ◌||◌, List, [], ◌∷◌, length, leb, ltb, eqb}
 use Rattle.terms.specs.Answer.{pick}
 

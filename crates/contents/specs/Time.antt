@@ -1,4 +1,4 @@
--- GeneralizedTime, and moments (01, "Encoding" and "Findings and verdicts"; RULES 2.4 and 8.2). Assumes nothing.
+-- GeneralizedTime, and moments (01, "Encoding" and "Findings and verdicts"). Assumes nothing.
 use Rattle.std.specs.Prelude.{ℕ, suc, zero, ◌+◌, ◌*◌, ◌-◌, ◌%◌, ◌^◌, Bool, not, ◌&&◌, ◌||◌, List, [], ◌∷◌, ◌++◌, map, get_or, leb, ltb, eqb}
 use Rattle.terms.specs.Numbers.{bad_time}
 use Rattle.terms.specs.Answer.{Res, good, fault, Got, got, pick, bind, need, same}

@@ -3,22 +3,18 @@ use Rattle.std.specs.Prelude.{◌≡◌, ℕ, ◌+◌, ◌-◌, ◌≤◌, ◌<�
 use Rattle.std.proofs.Math.Path.{refl, ap}
 use Rattle.std.proofs.Common.{sym, ◌∙◌, arith, le-leb}
 use Rattle.std.proofs.Math.Bool.{true, false, not}
-use Rattle.std.proofs.Math.Option.{Option, none, some}
 use mathlib.Core.List.{List, [], ◌∷◌}
 use Rattle.std.proofs.Math.ListN.{get_or}
 use Rattle.std.proofs.lemmas.Bool.{lt-leb}
 use Rattle.std.specs.Borrow.{Bor}
 use Rattle.terms.specs.declared.Field.{Field}
-use Rattle.terms.specs.Answer.{good, pick}
+use Rattle.terms.specs.Answer.{pick}
 use Rattle.terms.specs.Laws.Answer.{never}
-use Rattle.layouts.specs.Layout.{All}
-use Rattle.layouts.specs.Fields.{Entry, is_field, first, Stands}
-use Rattle.layouts.specs.Laws.Fields.{Sought, stands_within, stands_cut, first-sought, first_holds}
-use Rattle.layouts.specs.Places.{slot, under, numbers_of, Placed}
+use Rattle.layouts.specs.Places.{slot, under}
 use Rattle.records.specs.declared.Part.{Part}
 use Rattle.records.specs.declared.Part.TheVariants.{There, Absent, Refused}
-use Rattle.records.specs.Part.{PartOf, Lies}
-use Rattle.cuts.specs.Handed.{part_of, part_under, span_of, within}
+use Rattle.records.specs.Part.{PartOf}
+use Rattle.cuts.specs.Handed.{part_under, span_of, within}
 
 -- ---- a start and a length inside so many bytes
 
@@ -90,31 +86,3 @@ module _ (s z : Bor (List ℕ)) where
 
   pub cut_named : (y p : Part) → y ≡ p → PartOf s z (within (length s.now) (span_of y)) → PartOf s z (within (length s.now) (span_of p))
   cut_named y p e h = rw e at h
-
--- ---- of fields that stand in a record
-
--- the numbers under a name are those of the field that is asked for
-pub numbers_part : (f : Field) (d : List ℕ) (o : Option Entry) → under f d ≡ numbers_of o → part_under f d ≡ part_of (good o)
-unfolding part_under pick under
-numbers_part f d o h = rw (ap (λ (x : List ℕ). get_or x 0 0) h, ap (λ (x : List ℕ). get_or x 1 0) h, ap (λ (x : List ℕ). get_or x 2 0) h) (go o)
-  where
-    go : (o : Option Entry) → pick (eqb (get_or (numbers_of o) 0 0) 0) Absent (There (get_or (numbers_of o) 1 0) (get_or (numbers_of o) 2 0)) ≡ part_of (good o)
-    go none = refl
-    go (some x) = refl
-
--- a part is a field's own bytes, and lies at its place; of none it has no bytes, and lies at the start
-abbrev pub Own : Bor (List ℕ) → Bor (List ℕ) → Option Entry → Type 0
-Own s z (some x) = Lies s z x.bytes x.place
-Own s z none = Lies s z [] 0
-
--- what a table of their places has under a name is the field's own
-pub part-own : (s z : Bor (List ℕ)) (k : ℕ) (xs : List Entry) (d : List ℕ) (f : Field) → All (Stands s.now) xs → Placed k xs d → PartOf s z (within (length s.now) (span_of (part_under f d)))
-    → Own s z (first (is_field f k) xs)
-part-own s z k xs d f st p h = go (first (is_field f k) xs) (first-sought (is_field f k) xs) (rw (numbers_part f d (first (is_field f k) xs) (p.1 f)) at h)
-  where
-    go : (o : Option Entry) → Sought (is_field f k) xs o → PartOf s z (within (length s.now) (span_of (part_of (good o)))) → Own s z o
-    go none n g = let i = rw (within_nothing (length s.now)) at g in (i.holds, i.lies)
-    go (some x) q g =
-        let t = first_holds (Stands s.now) (is_field f k) xs x st q in
-        let i = rw (within-yes (length s.now) x.place (length x.bytes) (stands_within s.now x t)) at g in
-        (i.holds ∙ stands_cut s.now x t, i.lies)

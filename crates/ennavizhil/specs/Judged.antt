@@ -1,4 +1,4 @@
--- A verdict by findings that are numbers in a row (03, 42; RULES 11). Assumes nothing.
+-- A verdict by findings that are numbers in a row (03, 42). Assumes nothing.
 use Rattle.std.specs.Prelude.{ℕ, List}
 use Rattle.terms.specs.Answer.{pick, Told, told_none}
 use Rattle.verdicts.specs.Verdict.{Rulebook, verdict, told_verdict}

@@ -2,7 +2,6 @@
 use Rattle.std.specs.Prelude.{◌≡◌, ℕ, Bool, true, false, List, ℤ}
 use Rattle.std.proofs.Common.{subst}
 use Rattle.terms.specs.Answer.{pick, Told}
-use Rattle.layouts.specs.declared.Whose.{Whose}
 use Rattle.runs.specs.Run.{Reader, held}
 use Rattle.runs.specs.declared.Moved.{Moved}
 use Rattle.verdicts.specs.declared.Findings.{Findings}
@@ -11,7 +10,6 @@ use Rattle.verdicts.specs.Verdict.{Rulebook, verdict, told_verdict}
 use Rattle.finding_rows.specs.Row.{are_findings}
 use Rattle.given_findings.specs.Given.{findings_in}
 use Rattle.packs.specs.Packed.{packed_number, packed_first, packed_second, packed_step, records_told, value_told}
-use Rattle.about_packs.specs.About.{told_whose}
 use Rattle.ennavizhil.specs.Judged.{asked_verdict}
 
 -- ---- an answer as one number, by what the answer is
@@ -34,9 +32,6 @@ module _ (z : ℕ) (t u : Told) where
 
 pub value_is : (z : ℤ) (t u : Told) → z ≡ value_told t → t ≡ u → z ≡ value_told u
 value_is z t u a e = subst (λ x. z ≡ value_told x) e a
-
-pub about_is : (z : ℕ) (x y : Whose) → z ≡ packed_first (told_whose x) → x ≡ y → z ≡ packed_first (told_whose y)
-about_is z x y a e = subst (λ w. z ≡ packed_first (told_whose w)) e a
 
 -- ---- verdicts
 

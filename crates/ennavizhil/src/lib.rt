@@ -1,15 +1,11 @@
 // The static library: what the crates answer, for C, with numbers and slices of numbers only.
-ghost use Rattle.std.specs.Prelude.{◌≡◌, length};
-ghost use Rattle.terms.specs.Answer.{bit};
+ghost use Rattle.std.specs.Prelude.{◌≡◌};
 ghost use Rattle.records.specs.Record.{seal, signature};
 ghost use Rattle.records.specs.Handing.{record_answer, fill_answer, fill_after, write_answer, write_after};
 ghost use Rattle.runs.specs.Run.{at, run_answer, step_answer, step_after};
 ghost use Rattle.verdicts.specs.Verdict.{seal_rules, signature_rules};
 ghost use Rattle.packs.specs.Packed.{packed_number, packed_first, packed_second, packed_step, records_told, value_told};
-ghost use Rattle.about_packs.specs.About.{told_whose};
-ghost use Rattle.asked.specs.Asked.{asked_field, asked_match, asked_value, asked_critical, asked_count, asked_about};
-ghost use Rattle.sorts.specs.Sorts.{is_refusal, is_verdict};
-ghost use Rattle.wordings.specs.Wording.{words_of, label_of, told_text, text_after};
+ghost use Rattle.asked.specs.Asked.{kind_of, asked_field, asked_match, asked_value, asked_critical, asked_count};
 ghost use Rattle.place_tables.specs.Table.{table_answer, TableAfter};
 ghost use Rattle.ennavizhil.specs.Judged.{asked_verdict};
 
@@ -129,7 +125,7 @@ pub extern "C" fn ennavizhil_value(kind: u8, record: &[u8], field: u8) -> i64
 // Whether a custom item is critical, as 0 or 1.
 #[unsafe(no_mangle)]
 pub extern "C" fn ennavizhil_critical(kind: u8, record: &[u8], field: u8, index: usize) -> u64
-    ensures { result ≡ packed_first (asked_critical kind field index «record».now) }
+    ensures { result ≡ packed_first (asked_critical (kind_of kind) field index «record».now) }
 {
     value_packs::critical(asked::critical(kind, record, field, index))
 }
@@ -137,7 +133,7 @@ pub extern "C" fn ennavizhil_critical(kind: u8, record: &[u8], field: u8, index:
 // How many items a list has.
 #[unsafe(no_mangle)]
 pub extern "C" fn ennavizhil_count(kind: u8, record: &[u8], field: u8) -> u64
-    ensures { result ≡ packed_first (asked_count kind field «record».now) }
+    ensures { result ≡ packed_first (asked_count (kind_of kind) field «record».now) }
 {
     value_packs::items(asked::items(kind, record, field))
 }
@@ -156,48 +152,6 @@ pub extern "C" fn ennavizhil_matching_length(kind: u8, record: &[u8], given: &[u
     ensures { result ≡ packed_second (asked_match kind given.now «record».now) }
 {
     part_packs::length(asked::matching_entry(kind, record, given))
-}
-
-// What the refusal of a record is about: the number of an item, 255 for the record itself.
-#[unsafe(no_mangle)]
-pub extern "C" fn ennavizhil_about(kind: u8, record: &[u8]) -> u64
-    ensures { result ≡ packed_first (told_whose (asked_about kind «record».now)) }
-{
-    about_packs::about(asked::about(kind, record))
-}
-
-// Whether a number is a refusal's, as 0 or 1.
-#[unsafe(no_mangle)]
-pub extern "C" fn ennavizhil_is_refusal(number: u8) -> u8
-    ensures { result ≡ bit (is_refusal number) }
-{
-    sorts::is_refusal(number) as u8
-}
-
-// Whether a number is a verdict's, as 0 or 1.
-#[unsafe(no_mangle)]
-pub extern "C" fn ennavizhil_is_verdict(number: u8) -> u8
-    ensures { result ≡ bit (is_verdict number) }
-{
-    sorts::is_verdict(number) as u8
-}
-
-// A number in words, in a language, into a destination: the bytes written, or 20.
-#[unsafe(no_mangle)]
-pub extern "C" fn ennavizhil_words(language: u8, number: u8, text: &mut [u8]) -> u64
-    ensures value { result ≡ packed_first (told_text (words_of language number) (length text.old)) }
-    ensures text_after { text.new ≡ text_after (words_of language number) text.old }
-{
-    word_packs::written(wordings::words_of(language, number, text))
-}
-
-// The label of a field, in a language, into a destination: the bytes written, or 20.
-#[unsafe(no_mangle)]
-pub extern "C" fn ennavizhil_label(language: u8, field: u8, text: &mut [u8]) -> u64
-    ensures value { result ≡ packed_first (told_text (label_of language field) (length text.old)) }
-    ensures text_after { text.new ≡ text_after (label_of language field) text.old }
-{
-    word_packs::written(wordings::label_of(language, field, text))
 }
 
 // The table of places of a seal, in a destination: the length of the seal, or the refusal.

@@ -2,15 +2,10 @@
 -- Nobody has to believe this page: it names what `Scan` and `Marks` say.
 use Rattle.std.specs.Prelude.{ℕ, List}
 use Rattle.terms.specs.declared.Field.{Field}
-use Rattle.terms.specs.declared.KnownName.{KnownName}
 use Rattle.heads.specs.declared.Seen.{Seen}
-use Rattle.contents.specs.Leaves.{Leaf, Known, only}
-use Rattle.layouts.specs.Layout.{known}
+use Rattle.contents.specs.Leaves.{Leaf}
 use Rattle.layouts.specs.Scan.{leaf_at}
-use Rattle.layouts.specs.Marks.{leaf_marks, marks_part}
+use Rattle.layouts.specs.Marks.{leaf_marks}
 
 unfoldable pub leaf_walk : Leaf → Field → ℕ → List ℕ → ℕ → ℕ → List ℕ → Seen × List ℕ
 leaf_walk l f k s p e d = (leaf_at l s p e, leaf_marks l f k s p e d)
-
-unfoldable pub known_walk : Known → KnownName → List ℕ → ℕ → ℕ → List ℕ → Seen × List ℕ
-known_walk w f s p e d = (leaf_at (only w) s p e, marks_part (known f w) 0 s p e d)

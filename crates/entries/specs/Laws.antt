@@ -2,16 +2,13 @@
 use Rattle.std.specs.Prelude.{◌≡◌, refl, ℕ, List}
 use Rattle.std.proofs.Common.{sym, ap, ◌∙◌}
 use Rattle.terms.specs.declared.Field.{Field}
-use Rattle.terms.specs.declared.KnownName.{KnownName}
 use Rattle.heads.specs.declared.Seen.{Seen}
 use Rattle.heads.specs.declared.Seen.TheVariants.{Item as At, Refused as Bad}
 use Rattle.layouts.specs.Scan.{leaf_at}
 use Rattle.primitives.specs.declared.Primitive.{Primitive}
-use Rattle.primitives.specs.declared.Word.{Word}
-use Rattle.primitives.specs.Primitive.{leaf_of, known_of}
-use Rattle.contents.specs.Leaves.{only}
-use Rattle.layouts.specs.Marks.{noted, blamed, blamed_known, leaf_marks, marks}
-use Rattle.entries.specs.Entry.{leaf_walk, known_walk}
+use Rattle.primitives.specs.Primitive.{leaf_of}
+use Rattle.layouts.specs.Marks.{noted, blamed, leaf_marks}
+use Rattle.entries.specs.Entry.{leaf_walk}
 
 -- two answers at once, and each of them
 pub both : {A : Type 0} {x y : A} {d d' : List ℕ} → x ≡ y → d ≡ d' → ◌≡◌ {A = A × List ℕ} (x, d) (y, d')
@@ -33,14 +30,3 @@ module _ (f : Field) (n : ℕ) (s : List ℕ) (p e : ℕ) (d : List ℕ) (l : Pr
   pub leaf_taken : (a z : ℕ) (d' : List ℕ) → h ≡ At a z → d' ≡ noted f n a z 0 d → (At a z, d') ≡ leaf_walk (leaf_of l) f n s p e d
   unfolding leaf_walk leaf_marks
   leaf_taken a z d' b g = both (sym b ∙ j) (rw (← j, b) g)
-
--- ---- an item of one content
-
-module _ (f : KnownName) (s : List ℕ) (p e : ℕ) (d : List ℕ) (w : Word) (h : Seen) (j : h ≡ leaf_at (only (known_of w)) s p e) where
-  pub known_refused : (m q : ℕ) (d' : List ℕ) → h ≡ Bad m q → d' ≡ blamed_known f d → (h, d') ≡ known_walk (known_of w) f s p e d
-  unfolding known_walk marks
-  known_refused m q d' b g = both j (rw (← j, b) g)
-
-  pub known_taken : (a z : ℕ) → h ≡ At a z → (At a z, d) ≡ known_walk (known_of w) f s p e d
-  unfolding known_walk marks
-  known_taken a z b = both (sym b ∙ j) (rw (← j, b))

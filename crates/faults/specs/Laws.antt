@@ -1,14 +1,12 @@
 -- What a refusal is about, by the number behind the table of places; and the table alone. Assumes nothing.
-use Rattle.std.specs.Prelude.{◌≡◌, refl, ℕ, suc, zero, ◌+◌, ◌-◌, ◌≤◌, ◌<◌, List, length, get_or, set, take, replicate}
-use Rattle.std.proofs.Common.{sym, ap, ◌∙◌, arith, length-set, take-suc, take-suc-set, lt-ltb, le-ltb, ne_eqb}
+use Rattle.std.specs.Prelude.{◌≡◌, refl, ℕ, suc, ◌+◌, ◌-◌, ◌≤◌, ◌<◌, List, length, get_or, set, take, replicate}
+use Rattle.std.proofs.Common.{sym, ap, ◌∙◌, arith, length-set, take-suc, take-suc-set, ne_eqb}
 use Rattle.std.proofs.lemmas.List.{length-replicate}
 use Rattle.std.proofs.Math.ListN.{get_or-eq_default}
 use Rattle.std.proofs.Math.Seq.{take-length}
 use Rattle.terms.specs.declared.Field.{Field}
 use Rattle.terms.specs.declared.Field.TheVariants.{SealInformation}
-use Rattle.terms.specs.declared.KnownName.{KnownName}
-use Rattle.terms.specs.declared.KnownName.TheVariants.{HeaderName}
-use Rattle.terms.specs.Names.{names, names_count, name_of, known_name}
+use Rattle.terms.specs.Names.{names, names_count, name_of}
 use Rattle.terms.specs.Numbers.{largest_record}
 use Rattle.terms.specs.Answer.{pick}
 use Rattle.heads.specs.declared.Step.{Step}
@@ -23,7 +21,7 @@ use Rattle.layouts.specs.Laws.Passed.{Front, passed_placed}
 use Rattle.layouts.specs.Laws.Places.{blank}
 use Rattle.layouts.specs.declared.Outcome.TheVariants.{Length, Refused as Unread}
 use Rattle.layouts.specs.declared.Whose.{Whose}
-use Rattle.layouts.specs.declared.Whose.TheVariants.{Nothing, Record, Field as field, Known as fixed}
+use Rattle.layouts.specs.declared.Whose.TheVariants.{Nothing, Record, Field as field}
 use Rattle.records.specs.Handing.{record_answer}
 use Rattle.entries.specs.Laws.{answers, tables}
 use Rattle.readers.specs.Whole.{whole_walk}
@@ -59,20 +57,9 @@ pub whose_record : (n : ℕ) → n ≡ 0 → Record ≡ whose_by Record n
 unfolding whose_by pick
 whose_record n h = rw h
 
-pub whose_field : (n : ℕ) (f : Field) → (n ≡ 0 → ⊥) → n ≤ names_count → f ≡ name_of (n - 1) → field f ≡ whose_by Record n
+pub whose_field : (n : ℕ) (f : Field) → (n ≡ 0 → ⊥) → f ≡ name_of (n - 1) → field f ≡ whose_by Record n
 unfolding whose_by pick
-whose_field n f h l e = rw (ne_eqb n 0 h, lt-ltb (n - 1) names_count (omega arith), e)
-
-pub whose_known : (n : ℕ) (f : KnownName) → (n ≡ 0 → ⊥) → names_count < n → f ≡ known_name (n - 1 - names_count) → fixed f ≡ whose_by Record n
-unfolding whose_by pick
-whose_known n f h l e = rw (ne_eqb n 0 h, le-ltb (n - 1) names_count (omega arith), e)
-
--- an item of one content by its number
-pub known_first : (n : ℕ) → (n ≡ 1 → ⊥) → (n ≡ 2 → ⊥) → HeaderName ≡ known_name n
-known_first zero h g = refl
-known_first (suc zero) h g = absurd (h refl)
-known_first (suc (suc zero)) h g = absurd (g refl)
-known_first (suc (suc (suc n))) h g = refl
+whose_field n f h e = rw (ne_eqb n 0 h, e)
 
 -- ---- a record
 

@@ -1,6 +1,6 @@
-// What a refusal is about: reading a seal or a signature record, with the item that the first fault was found in and the fields before it.
+// What a refusal is about: reading a seal or a signature record, with the field that the first fault was found in and the fields before it.
 ghost use Rattle.std.specs.Prelude.{◌≡◌, ◌<◌, length, take};
-ghost use Rattle.terms.specs.Names.{name_of, known_name};
+ghost use Rattle.terms.specs.Names.{name_of};
 ghost use Rattle.terms.specs.Numbers.{largest_record};
 ghost use Rattle.layouts.specs.Places.{table_size, Placed};
 ghost use Rattle.layouts.specs.Whole.{told_outcome};
@@ -15,7 +15,7 @@ use heads::Step;
 use layouts::{Outcome, Whose};
 use places::{TABLE_SIZE, WANTED_AT};
 use records::Record;
-use terms::{Field, KnownName, LARGEST_RECORD, NAMES};
+use terms::{Field, LARGEST_RECORD, NAMES};
 
 // A table of places, and behind it a number more.
 const ROOM: usize = TABLE_SIZE + 1;
@@ -61,17 +61,6 @@ fn name_of(n: usize) -> Field
     Field::SealInformation
 }
 
-// The item of one content that has a number; past the last one, the first.
-fn known_of(n: usize) -> KnownName
-    ensures { result ≡ known_name n }
-{
-    match n {
-        1 => KnownName::SealVersion,
-        2 => KnownName::SignatureVersion,
-        _ => KnownName::HeaderName,
-    }
-}
-
 // Whose fault a refusal is, by the number behind the table: the record's where no name is noted.
 fn whose(n: usize) -> Whose
     ensures { result ≡ whose_by TheRecord n }
@@ -79,10 +68,7 @@ fn whose(n: usize) -> Whose
     if n == 0 {
         return Whose::Record;
     }
-    if n <= NAMES {
-        return Whose::Field(name_of(n - 1));
-    }
-    Whose::Known(known_of(n - 1 - NAMES))
+    Whose::Field(name_of(n - 1))
 }
 
 // A record, whose fault its refusal is, and where the fields stand that were passed: of those in a list, the one of an index.

@@ -1,5 +1,5 @@
 -- A field of a record by the table of places, and the part that is handed out. Assumes nothing.
-use Rattle.std.specs.Prelude.{◌≡◌, ℕ, ◌+◌, ◌≤◌, Bool, List}
+use Rattle.std.specs.Prelude.{◌≡◌, ℕ, ◌+◌, ◌≤◌, Bool, List, get_or, eqb}
 use Rattle.std.proofs.Math.Path.{refl}
 use Rattle.std.proofs.Common.{ap, ◌∙◌, subst}
 use Rattle.std.proofs.Math.Option.{Option, none, some}
@@ -7,12 +7,12 @@ use Rattle.std.proofs.Math.ListN.{length}
 use Rattle.std.specs.Borrow.{Bor}
 use Rattle.terms.specs.declared.Field.{Field}
 use Rattle.terms.specs.Numbers.{largest_record}
-use Rattle.terms.specs.Answer.{Res, good, fault, bind, answered}
+use Rattle.terms.specs.Answer.{Res, good, fault, bind, pick, answered}
 use Rattle.terms.specs.Laws.Answer.{never, good_inj}
 use Rattle.layouts.specs.Layout.{Members, Values, Oks}
 use Rattle.layouts.specs.Fields.{Entry, fields, is_field, first, Stands}
 use Rattle.layouts.specs.Laws.Fields.{First, fields_stand, stands_within, stands_cut, first-sought, first_holds}
-use Rattle.layouts.specs.Places.{Placed}
+use Rattle.layouts.specs.Places.{under, numbers_of, Placed}
 use Rattle.layouts.specs.Whole.{accept, record_of, told_outcome}
 use Rattle.layouts.specs.Laws.Whole.{accept_back}
 use Rattle.layouts.specs.declared.Outcome.{Outcome}
@@ -23,7 +23,7 @@ use Rattle.records.specs.Handing.{told_record, read_record, fields_of, fields_in
 use Rattle.records.specs.Part.{PartOf}
 use Rattle.cuts.specs.Handed.{part_of, part_under, span_of, within}
 use Rattle.cuts.specs.Laws.{within_nothing}
-pub use Rattle.cuts.specs.Laws.{within-yes, numbers_part}
+pub use Rattle.cuts.specs.Laws.{within-yes}
 
 -- ---- what is told of a field
 
@@ -101,6 +101,15 @@ pub part_bytes : (s z : Bor (List ℕ)) (r : Members) (q : Entry → Bool) (x : 
 part_bytes s z r q x e h = let k = rw (within-yes (length s.now) x.place (length x.bytes) (sought-within r q s.now x e)) at h in k.holds ∙ stands_cut s.now x (sought_stands r q s.now x e)
 
 -- ---- a field by the table
+
+-- the numbers under a name are those of the field that is asked for
+pub numbers_part : (f : Field) (d : List ℕ) (o : Option Entry) → under f d ≡ numbers_of o → part_under f d ≡ part_of (good o)
+unfolding part_under pick under
+numbers_part f d o h = rw (ap (λ (x : List ℕ). get_or x 0 0) h, ap (λ (x : List ℕ). get_or x 1 0) h, ap (λ (x : List ℕ). get_or x 2 0) h) (go o)
+  where
+    go : (o : Option Entry) → pick (eqb (get_or (numbers_of o) 0 0) 0) Absent (There (get_or (numbers_of o) 1 0) (get_or (numbers_of o) 2 0)) ≡ part_of (good o)
+    go none = refl
+    go (some x) = refl
 
 -- the part that a table of places leads to is the one that is handed out
 pub table_handed : (s z : Bor (List ℕ)) (r : Members) (f : Field) (k : ℕ) (d : List ℕ) → Placed k (fields_in r s.now) d → PartOf s z (within (length s.now) (span_of (part_under f d)))

@@ -1,4 +1,4 @@
--- Which rows of numbers are findings (03, 42; RULES 11). Assumes nothing.
+-- Which rows of numbers are findings (03, 42). Assumes nothing.
 use Rattle.std.specs.Prelude.{ℕ, Bool, ◌&&◌, List, length, get_or, eqb, ltb}
 
 abbrev pub numbers_count : ℕ

@@ -1,4 +1,4 @@
--- What the numbers of a row say as findings (03, 42; RULES 11). Assumes nothing.
+-- What the numbers of a row say as findings (03, 42). Assumes nothing.
 use Rattle.std.specs.Prelude.{ℕ, ◌+◌, Bool, List, eqb}
 use Rattle.terms.specs.Answer.{pick}
 use Rattle.verdicts.specs.declared.Revocation.{Revocation}

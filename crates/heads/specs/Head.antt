@@ -1,4 +1,4 @@
--- An item's head: its tag and its length (01, "Encoding"; RULES 2.1 and 3.2; X.690, 8.1). Assumes nothing.
+-- An item's head: its tag and its length (01, "Encoding"; X.690, 8.1). Assumes nothing.
 use Rattle.std.specs.Prelude.{ℕ, ◌+◌, ◌^◌, Bool, List, [], ◌∷◌, ◌++◌, length, take, drop, leb, ltb, eqb}
 use Rattle.terms.specs.Numbers.{item_missing, other_tag, bad_length, past_end, too_large}
 use Rattle.terms.specs.Answer.{Res, good, fault, pick, bind, need, have}

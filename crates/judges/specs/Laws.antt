@@ -26,21 +26,12 @@ use Rattle.judges.specs.declared.Check.{Check}
 use Rattle.judges.specs.declared.Check.TheVariants.{Passes, Fails}
 use Rattle.judges.specs.declared.StampTime.{StampTime}
 use Rattle.judges.specs.declared.StampTime.TheVariants.{At, None}
-use Rattle.judges.specs.Step.{by_reading, failed, row_of, first_of, Of, Tells, Stamped, Comes, Numbers, Judges, Weighs}
+use Rattle.judges.specs.Step.{failed, row_of, first_of, Of, Tells, Stamped, Comes, Numbers, Judges, Weighs}
 
 -- a row's test, by its number
 row : Unit {0}
 unfolding row_of first or_else pick
 row = tt
-
--- ---- the reading alone
-
-module _ (o : Ground) where
-  pub reading_passes : (g : Grounds) → o ≡ Read g → Judged valid false ≡ by_reading o
-  reading_passes g h = rw h
-
-  pub reading_refuses : (n p : ℕ) → o ≡ Unread n p → Refused n p ≡ by_reading o
-  reading_refuses n p h = rw h
 
 -- ---- each step tells of its row
 
@@ -270,9 +261,9 @@ unfolding Numbers Judges judged
 judges_seal g f n h x r i = rw (seal-notice x, ← (h x r i))
 
 module _ (b : Rulebook) (w original signer : List ℕ) (f : Findings) (o : Ground) (t : GroundOf b.layout w original signer o) where
-  pub verdict_refused : (n p : ℕ) (y : Verdict) → o ≡ Unread n p → y ≡ by_reading o → y ≡ verdict b w f original signer
+  pub verdict_refused : (n p : ℕ) → o ≡ Unread n p → Refused n p ≡ verdict b w f original signer
   unfolding verdict weigh
-  verdict_refused n p y h e = let u : GroundOf b.layout w original signer (Unread n p) = rw h at t in rw (e, h, u)
+  verdict_refused n p h = rw (rw h at t)
 
   pub verdict-read : (g : Grounds) (y : Verdict) → o ≡ Read g → Weighs b g f y → y ≡ verdict b w f original signer
   unfolding verdict weigh Weighs

@@ -1,6 +1,6 @@
 -- What a step tells of the table's row with its number, and what the steps come to. Assumes nothing.
 use Rattle.std.specs.Prelude.{◌≡◌, ℕ, Bool, true, false, ◌&&◌, List, [], ◌∷◌, eqb}
-use Rattle.terms.specs.Numbers.{valid, unreal_time}
+use Rattle.terms.specs.Numbers.{unreal_time}
 use Rattle.terms.specs.Answer.{pick}
 use Rattle.contents.specs.Time.{Moment, moment_at}
 use Rattle.moments.specs.Moment.{moment_in}
@@ -9,11 +9,9 @@ use Rattle.verdicts.specs.declared.Findings.{Findings}
 use Rattle.verdicts.specs.Verdict.{Step, or_else, first_failing, Facts, Rulebook, judged}
 use Rattle.verdicts.specs.declared.Stamping.TheVariants.{Good}
 use Rattle.verdicts.specs.declared.Verdict.{Verdict}
-use Rattle.verdicts.specs.declared.Verdict.TheVariants.{Judged, Refused}
+use Rattle.verdicts.specs.declared.Verdict.TheVariants.{Refused}
 use Rattle.verdicts.specs.Findings.{at_stamp, all_real}
 use Rattle.grounds.specs.declared.Grounds.{Grounds}
-use Rattle.grounds.specs.declared.Ground.{Ground}
-use Rattle.grounds.specs.declared.Ground.TheVariants.{Read, Refused as Unread}
 use Rattle.grounds.specs.Ground.{Rests}
 use Rattle.judges.specs.declared.Check.{Check}
 use Rattle.judges.specs.declared.Check.TheVariants.{Passes, Fails}
@@ -23,11 +21,6 @@ use Rattle.judges.specs.declared.StampTime.TheVariants.{At, None}
 abbrev pub failed : Check → Bool
 failed Passes = false
 failed Fails = true
-
--- what the reading alone comes to: the record's refusal, or that nothing fails
-abbrev pub by_reading : Ground → Verdict
-by_reading (Read g) = Judged valid false
-by_reading (Unread n p) = Refused n p
 
 -- a rulebook's row of a number
 unfoldable pub row_of : Rulebook → ℕ → Step Facts

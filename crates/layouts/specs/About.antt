@@ -1,6 +1,6 @@
--- What a refusal is about: the innermost item that was being read when the first fault was found. Assumes nothing.
--- Of an item's head, and of its own rule, it is the item; of bytes left over, the structure that they stand in; of the outermost head, and of
--- bytes after the record, the record.
+-- What a refusal is about: the innermost field that was being read when the first fault was found. Assumes nothing.
+-- Of an item's head, and of its own rule, it is the item; of an item of one content, and of bytes left over, the structure that they stand in;
+-- of the outermost head, and of bytes after the record, the record.
 use Rattle.std.specs.Prelude.{ℕ, suc, zero, List, [], ◌∷◌}
 use Rattle.terms.specs.declared.Field.{Field}
 use Rattle.terms.specs.Answer.{Res, Got, pick, unread}
@@ -9,7 +9,7 @@ use Rattle.layouts.specs.Layout.{Item, leaf, node, list, wrap, Members, end, ◌
 use Rattle.layouts.specs.Reading.{next, read_leaf, read, read_part}
 use Rattle.layouts.specs.Whole.{sequence, accept}
 use Rattle.layouts.specs.declared.Whose.{Whose}
-use Rattle.layouts.specs.declared.Whose.TheVariants.{Nothing, Record, Field as field, Known as fixed}
+use Rattle.layouts.specs.declared.Whose.TheVariants.{Nothing, Record, Field as field}
 
 -- the items of a list, at most `n`: the first that is refused; where none is, the list itself, which has none or too many
 unfoldable pub about_many : {A : Type 0} → (List ℕ → ℕ → Res (Got A)) → (List ℕ → ℕ → Whose) → Whose → ℕ → List ℕ → ℕ → Whose
@@ -31,7 +31,7 @@ unfoldable mutual
   about_all (m ▸ r) x w b = unread (read_part m w b) (about_part m x w b) λ a. about_all r x a.rest a.after
 
   pub about_part : Member → Whose → List ℕ → ℕ → Whose
-  about_part (known f k) x w b = fixed f
+  about_part (known k) x w b = x
   about_part (one f i) x w b = about i f w b
   about_part (maybe f i) x w b = about i f w b
   about_part (flag f) x w b = field f

@@ -1,6 +1,5 @@
 -- A small layout with an optional list, a choice and a flag, and a list of such, evaluated. Assumes nothing.
 use Rattle.std.specs.Prelude.{◌≡◌, refl, ℕ, true, List, [], ◌∷◌, ◌++◌, length, replicate, set, take, drop}
-use Rattle.std.proofs.Math.Option.{Option, none, some}
 use Rattle.terms.specs.declared.Field.{Field}
 use Rattle.terms.specs.declared.Field.TheVariants.{Header, Property, ListKind, CertificateList, ListedEntry, ListedDigest, SealCustomData, SealCustomItem, SealCustomCritical, Stamp}
 use Rattle.terms.specs.Numbers.{done, other_tag, bad_boolean, left_over, bad_bits, no_bytes, too_many_items, too_large, bad_sheet, no_room}
@@ -15,9 +14,9 @@ use Rattle.layouts.specs.Layout.{Members, end, ◌▸◌, leaf, node, list, wrap
 use Rattle.layouts.specs.Reading.{behind, read_leaf, begins, many, read_option, read_flag, read_either, read}
 use Rattle.layouts.specs.Sheet.{count, section, critical_byte, sheet_option, sheet_list, sheet, read_count, read_section, fill_leaf, times, critical_in, fill_flag, fill_option, fill_list, fill}
 use Rattle.layouts.specs.Whole.{sequence, record_of, record_at, accept, accept_sheet, fit, fill_sheet, write_record, stored, told_outcome}
-use Rattle.layouts.specs.Fields.{Entry, list_entry, each_fields, option_fields, either_fields, flag_fields, item_fields, fields, is_field, first}
+use Rattle.layouts.specs.Fields.{Entry, list_entry, each_fields, option_fields, either_fields, flag_fields, item_fields, fields}
 use Rattle.layouts.specs.Passed.{passed_leaf, passed_many, passed, record_passed}
-use Rattle.layouts.specs.Places.{table_size, slot, under, wanted, numbers_of}
+use Rattle.layouts.specs.Places.{table_size, slot, under, wanted}
 use Rattle.layouts.specs.declared.Outcome.TheVariants.{Length, Refused}
 
 evaluate : Unit {0}
@@ -196,29 +195,29 @@ three_items =
 abbrev a_byte_more : List ℕ
 a_byte_more = set (set (set (set three_items 1 0x2E) 3 0x2C) 38 0x09) 40 0x07 ++ 0x00 ∷ []
 
--- a field: its name, its index if it stands in a list, where it starts, how many bytes it has, and of a list how many items
+-- a field: its name, its index, where it starts, how many bytes it has, and of a list how many items
 abbrev Standing : Type 0
-Standing = Field × Option ℕ × ℕ × ℕ × ℕ
+Standing = Field × ℕ × ℕ × ℕ × ℕ
 
 -- those of the items, the last of which has `n` bytes
 abbrev in_items : ℕ → List Standing
 in_items n =
-    (ListedEntry, some 0, 6, 8, 0) ∷ (ListKind, some 0, 10, 1, 0) ∷ (CertificateList, some 0, 13, 1, 0)
-    ∷ (ListedEntry, some 1, 16, 21, 0) ∷ (ListKind, some 1, 20, 1, 0) ∷ (CertificateList, some 1, 21, 5, 0) ∷ (ListedDigest, some 1, 25, 1, 0)
-    ∷ (SealCustomCritical, some 1, 28, 1, 0)
-    ∷ (SealCustomItem, some 0, 33, 1, 0) ∷ (SealCustomItem, some 1, 36, 1, 0) ∷ (SealCustomData, some 1, 29, 8, 2)
-    ∷ (ListedEntry, some 2, 39, n, 0) ∷ (ListKind, some 2, 43, 1, 0) ∷ (CertificateList, some 2, 46, 1, 0) ∷ []
+    (ListedEntry, 0, 6, 8, 0) ∷ (ListKind, 0, 10, 1, 0) ∷ (CertificateList, 0, 13, 1, 0)
+    ∷ (ListedEntry, 1, 16, 21, 0) ∷ (ListKind, 1, 20, 1, 0) ∷ (CertificateList, 1, 21, 5, 0) ∷ (ListedDigest, 1, 25, 1, 0)
+    ∷ (SealCustomCritical, 1, 28, 1, 0)
+    ∷ (SealCustomItem, 0, 33, 1, 0) ∷ (SealCustomItem, 1, 36, 1, 0) ∷ (SealCustomData, 1, 29, 8, 2)
+    ∷ (ListedEntry, 2, 39, n, 0) ∷ (ListKind, 2, 43, 1, 0) ∷ (CertificateList, 2, 46, 1, 0) ∷ []
 
 -- a record of at most so many bytes, and the fields that are passed in it
 abbrev passings : List (Members × ℕ × List ℕ × List Standing)
 passings =
     -- an accepted record; bytes left over in an item: the list is not over
-    (nested, 100, three_items, in_items 8 ++ (Property, none, 2, 45, 3) ∷ [])
+    (nested, 100, three_items, in_items 8 ++ (Property, 0, 2, 45, 3) ∷ [])
     ∷ (nested, 100, a_byte_more, in_items 9)
     -- a list with no item, and with a third one; what is left over is no field
     ∷ (nested, 100, 0x30 ∷ 0x02 ∷ 0x30 ∷ 0x00 ∷ [], [])
-    ∷ (small, 100, of1 17 (0x30 ∷ 0x09 ∷ 0x04 ∷ 0x01 ∷ 0x01 ∷ 0x04 ∷ 0x01 ∷ 0x02 ∷ 0x04 ∷ 0x01 ∷ 0x03 ∷ []), (ListKind, none, 4, 1, 0) ∷ (CertificateList, none, 7, 1, 0) ∷ (SealCustomItem, some 0, 12, 1, 0) ∷ (SealCustomItem, some 1, 15, 1, 0) ∷ [])
-    ∷ (small, 100, of1 12 (0x01 ∷ 0x01 ∷ 0xFF ∷ 0x01 ∷ 0x01 ∷ 0xFF ∷ []), (ListKind, none, 4, 1, 0) ∷ (CertificateList, none, 7, 1, 0) ∷ (SealCustomCritical, none, 10, 1, 0) ∷ [])
+    ∷ (small, 100, of1 17 (0x30 ∷ 0x09 ∷ 0x04 ∷ 0x01 ∷ 0x01 ∷ 0x04 ∷ 0x01 ∷ 0x02 ∷ 0x04 ∷ 0x01 ∷ 0x03 ∷ []), (ListKind, 0, 4, 1, 0) ∷ (CertificateList, 0, 7, 1, 0) ∷ (SealCustomItem, 0, 12, 1, 0) ∷ (SealCustomItem, 1, 15, 1, 0) ∷ [])
+    ∷ (small, 100, of1 12 (0x01 ∷ 0x01 ∷ 0xFF ∷ 0x01 ∷ 0x01 ∷ 0xFF ∷ []), (ListKind, 0, 4, 1, 0) ∷ (CertificateList, 0, 7, 1, 0) ∷ (SealCustomCritical, 0, 10, 1, 0) ∷ [])
     -- a record that is too large
     ∷ (small, 7, of1 6 [], [])
     ∷ []
@@ -239,31 +238,3 @@ expected (x ∷ xs) = standing x.2 x.3 ∷ expected xs
 fields-passed : found passings ≡ expected passings
 unfolding evaluate each_fields option_fields either_fields flag_fields item_fields fields passed passed_leaf passed_many record_passed
 fields-passed = refl
-
--- ---- a field by its name and an index: the four numbers that stand in the table of places
-
--- "in a list by index": the list itself stands in none, and a list in an item has the item's index
-abbrev questions : List (Field × ℕ × List ℕ)
-questions =
-    (Property, 0, 1 ∷ 2 ∷ 45 ∷ 3 ∷ [])
-    ∷ (Property, 7, 1 ∷ 2 ∷ 45 ∷ 3 ∷ [])
-    ∷ (ListedEntry, 0, 1 ∷ 6 ∷ 8 ∷ 0 ∷ [])
-    ∷ (ListedEntry, 2, 1 ∷ 39 ∷ 8 ∷ 0 ∷ [])
-    ∷ (ListedEntry, 3, 0 ∷ 0 ∷ 0 ∷ 0 ∷ [])
-    ∷ (SealCustomData, 0, 0 ∷ 0 ∷ 0 ∷ 0 ∷ [])
-    ∷ (SealCustomData, 1, 1 ∷ 29 ∷ 8 ∷ 2 ∷ [])
-    ∷ (SealCustomItem, 1, 1 ∷ 36 ∷ 1 ∷ 0 ∷ [])
-    ∷ (Header, 0, 0 ∷ 0 ∷ 0 ∷ 0 ∷ [])
-    ∷ []
-
-abbrev in_table : List (Field × ℕ × List ℕ) → List (List ℕ)
-in_table [] = []
-in_table (x ∷ xs) = numbers_of (first (is_field x.0 x.1) (record_passed 100 nested three_items)) ∷ in_table xs
-
-abbrev to_stand : List (Field × ℕ × List ℕ) → List (List ℕ)
-to_stand [] = []
-to_stand (x ∷ xs) = x.2 ∷ to_stand xs
-
-fields_asked : in_table questions ≡ to_stand questions
-unfolding evaluate is_field first passed passed_leaf passed_many record_passed
-fields_asked = refl

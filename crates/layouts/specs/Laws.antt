@@ -11,5 +11,3 @@ pub mod About
 pub mod Passed
 pub mod Passing
 pub mod Stand
-pub mod Index
-pub mod Refusals

@@ -1,9 +1,8 @@
--- The layout of a record as data, and what it means: the values it has, which are inside the rules, how they are written (RULES 1 and 2). Assumes nothing.
+-- The layout of a record as data, and what it means: the values it has, which are inside the rules, how they are written. Assumes nothing.
 use Rattle.std.specs.Prelude.{◌≡◌, ◌⊎◌, ℕ, ◌≤◌, Bool, true, false, not, List, [], ◌∷◌, ◌++◌, length, T}
 use Rattle.std.proofs.Common.{inl, inr}
 use Rattle.std.proofs.Math.Option.{Option, none, some}
 use Rattle.terms.specs.declared.Field.{Field}
-use Rattle.terms.specs.declared.KnownName.{KnownName}
 use Rattle.terms.specs.Answer.{enough}
 use Rattle.heads.specs.Head.{tlv}
 use Rattle.contents.specs.Content.{fine}
@@ -25,7 +24,7 @@ mutual
     ◌▸◌ : Member → Members → Members
 
   pub data Member : Type 0 where
-    known : KnownName → Known → Member  -- an item of one content, which is no field
+    known : Known → Member  -- an item of one content, which is no field
     one : Field → Item → Member
     maybe : Field → Item → Member  -- optional
     flag : Field → Member  -- a BOOLEAN, FALSE by default
@@ -52,7 +51,7 @@ abbrev mutual
   Values (m ▸ r) = Part m × Values r
 
   pub Part : Member → Type 0
-  Part (known f w) = Unit {0}
+  Part (known w) = Unit {0}
   Part (one f i) = Value i
   Part (maybe f i) = Option (Value i)
   Part (flag f) = Bool
@@ -85,7 +84,7 @@ abbrev mutual
   Oks (m ▸ r) v = OkPart m v.0 × Oks r v.1
 
   pub OkPart : (m : Member) → Part m → Type 0
-  OkPart (known f w) v = Unit {0}
+  OkPart (known w) v = Unit {0}
   OkPart (one f i) v = Ok i v
   OkPart (maybe f i) v = InOption (λ x. Ok i x) v
   OkPart (flag f) v = Unit {0}
@@ -126,7 +125,7 @@ unfoldable mutual
   encodes (m ▸ r) v = encode_part m v.0 ++ encodes r v.1
 
   pub encode_part : (m : Member) → Part m → List ℕ
-  encode_part (known f w) v = encode_leaf (only w) w.content
+  encode_part (known w) v = encode_leaf (only w) w.content
   encode_part (one f i) v = encode i v
   encode_part (maybe f i) v = option (λ x. encode i x) v
   encode_part (flag f) v = critical v

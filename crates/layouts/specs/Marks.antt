@@ -2,11 +2,9 @@
 -- Nobody has to believe this page: `Laws.Passed` proves that a reading notes the fields that it passes, `Laws.About` that a refused item notes
 -- whose fault it is, and code is proved against its steps.
 use Rattle.std.specs.Prelude.{ℕ, suc, zero, ◌+◌, ◌-◌, Bool, ◌&&◌, ◌||◌, List, [], ◌∷◌, length, get_or, set, eqb, ltb}
-use Rattle.std.proofs.Math.Option.{Option, none, some}
 use Rattle.std.proofs.Math.Seq.{slice}
 use Rattle.terms.specs.declared.Field.{Field}
-use Rattle.terms.specs.declared.KnownName.{KnownName}
-use Rattle.terms.specs.Names.{code, names_count, known_code}
+use Rattle.terms.specs.Names.{code}
 use Rattle.terms.specs.Numbers.{too_many_items}
 use Rattle.terms.specs.Answer.{pick}
 use Rattle.heads.specs.Scan.{head_at, outermost_at, begins_at, close_at}
@@ -14,7 +12,7 @@ use Rattle.heads.specs.declared.Seen.{Seen}
 use Rattle.heads.specs.declared.Seen.TheVariants.{Item as At, Refused as Bad}
 use Rattle.heads.specs.declared.Step.{Step}
 use Rattle.heads.specs.declared.Step.TheVariants.{Next, Refused}
-use Rattle.contents.specs.Leaves.{Leaf, boolean, only}
+use Rattle.contents.specs.Leaves.{Leaf, boolean}
 use Rattle.layouts.specs.Layout.{Item, leaf, node, list, wrap, Members, end, ◌▸◌, Member, known, one, maybe, flag, choose, tag_of}
 use Rattle.layouts.specs.Whole.{sequence}
 use Rattle.layouts.specs.Scan.{leaf_at, scan, scans, scan_part}
@@ -34,29 +32,16 @@ filled d n a l i = set (set (set (set d n 1) (n + 1) a) (n + 2) l) (n + 3) i
 unfoldable pub noted : Field → ℕ → ℕ → ℕ → ℕ → List ℕ → List ℕ
 noted f k a z n d = pick (eqb k (wanted d) && free d (slot f)) (filled d (slot f) a (z - a) n) d
 
--- the index that a field is noted by: outside lists the one that is wanted
-abbrev pub index_or : ℕ → Option ℕ → ℕ
-index_or k none = k
-index_or k (some j) = j
+unfoldable pub notes : List Entry → List ℕ → List ℕ
+notes [] d = d
+notes (x ∷ xs) d = notes xs (noted x.name x.index x.place (x.place + length x.bytes) x.items d)
 
--- fields one after another, where `k` is wanted
-unfoldable pub notes : ℕ → List Entry → List ℕ → List ℕ
-notes k [] d = d
-notes k (x ∷ xs) d = notes k xs (noted x.name (index_or k x.index) x.place (x.place + length x.bytes) x.items d)
-
--- what is refused is noted behind the table by a number: where one stands there that is not taken
+-- the name of a field that is refused, by its number and one more, behind the table: where a number stands there that is not taken
 unfoldable pub unblamed : List ℕ → Bool
 unblamed d = ltb table_size (length d) && eqb (get_or d table_size 0) 0
 
-unfoldable pub blamed_by : ℕ → List ℕ → List ℕ
-blamed_by n d = pick (unblamed d) (set d table_size n) d
-
--- a field by its number and one more, an item of one content behind the fields
-abbrev pub blamed : Field → List ℕ → List ℕ
-blamed f d = blamed_by (code f + 1) d
-
-abbrev pub blamed_known : KnownName → List ℕ → List ℕ
-blamed_known f d = blamed_by (names_count + known_code f + 1) d
+unfoldable pub blamed : Field → List ℕ → List ℕ
+blamed f d = pick (unblamed d) (set d table_size (code f + 1)) d
 
 -- the table after what was seen, read or counted; where it was refused, the table that is given
 abbrev pub after_seen : Seen → List ℕ → (ℕ → ℕ → List ℕ) → List ℕ
@@ -110,7 +95,7 @@ unfoldable mutual
   marks_all (m ▸ r) k s p e d = after_step (scan_part m s p e) (marks_part m k s p e d) λ q. marks_all r k s q e (marks_part m k s p e d)
 
   pub marks_part : Member → ℕ → List ℕ → ℕ → ℕ → List ℕ → List ℕ
-  marks_part (known f w) k s p e d = after_seen (leaf_at (only w) s p e) (blamed_known f d) λ a z. d
+  marks_part (known w) k s p e d = d
   marks_part (one f i) k s p e d = marks i f k s p e d
   marks_part (maybe f i) k s p e d = pick (begins_at (tag_of i) s p e) (marks i f k s p e d) d
   marks_part (flag f) k s p e d = pick (begins_at boolean.tag s p e) (leaf_marks boolean f k s p e d) d
@@ -118,6 +103,6 @@ unfoldable mutual
       after_seen (leaf_at l s p e) (leaf_marks l f k s p e d) λ a z.
       pick (t (slice a z s)) (marks i g k s z e (leaf_marks l f k s p e d)) (marks j g k s z e (leaf_marks l f k s p e d))
 
--- a record at a position: what stands in no list is noted by the index that is wanted
+-- a record at a position
 unfoldable pub record_marks : ℕ → Members → List ℕ → ℕ → ℕ → List ℕ → List ℕ
-record_marks most r s p e d = after_seen (outermost_at most sequence s p e) d λ a z. marks_all r (wanted d) s a z d
+record_marks most r s p e d = after_seen (outermost_at most sequence s p e) d λ a z. marks_all r 0 s a z d

@@ -1,5 +1,5 @@
 -- The table of places that a reader answers with: under each name four numbers, whether the field is there, where it starts,
--- how many bytes it has, and of a list how many items; and, after them, the index of the items that are wanted of the lists. Assumes nothing.
+-- how many bytes it has, and of a list how many items; and, after them, the index of the item that is wanted of a list. Assumes nothing.
 use Rattle.std.specs.Prelude.{◌≡◌, ℕ, ◌+◌, ◌*◌, List, [], ◌∷◌, length, get_or}
 use Rattle.std.proofs.Math.Option.{Option, none, some}
 use Rattle.terms.specs.declared.Field.{Field}
@@ -32,6 +32,6 @@ abbrev pub numbers_of : Option Entry → List ℕ
 numbers_of none = 0 ∷ 0 ∷ 0 ∷ 0 ∷ []
 numbers_of (some x) = 1 ∷ x.place ∷ length x.bytes ∷ x.items ∷ []
 
--- the fields that are there for an index, each under its name
+-- the fields of an index, each under its name
 abbrev pub Placed : ℕ → List Entry → List ℕ → Type 0
 Placed k xs d = (wanted d ≡ k) × ((f : Field) → under f d ≡ numbers_of (first (is_field f k) xs))

@@ -1,4 +1,4 @@
--- Reading by a layout: "Items are read left to right, outer before inner; the first fault answers." (RULES 3.2 to 3.5) Assumes nothing.
+-- Reading by a layout: "Items are read left to right, outer before inner; the first fault answers." Assumes nothing.
 -- A window is the bytes up to the encloser's end; its offset counts from the start of the input.
 use Rattle.std.specs.Prelude.{◌⊎◌, ℕ, suc, zero, ◌+◌, Bool, true, false, List, [], ◌∷◌, length, take, drop, eqb}
 use Rattle.std.proofs.Common.{inl, inr}
@@ -59,7 +59,7 @@ unfoldable mutual
   reads (m ▸ r) w b = bind (read_part m w b) λ a. bind (reads r a.rest a.after) λ v. good (a.value, v)
 
   pub read_part : (m : Member) → List ℕ → ℕ → Res (Got (Part m))
-  read_part (known f k) w b = bind (read_leaf (only k) w b) λ c. good (got tt c.rest (next c))
+  read_part (known k) w b = bind (read_leaf (only k) w b) λ c. good (got tt c.rest (next c))
   read_part (one f i) w b = read i w b
   read_part (maybe f i) w b = read_option (tag_of i) (λ x p. read i x p) w b
   read_part (flag f) w b = read_flag w b

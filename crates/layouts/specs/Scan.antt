@@ -52,7 +52,7 @@ unfoldable mutual
   scans (m ▸ r) s p e = then_step (scan_part m s p e) λ q. scans r s q e
 
   pub scan_part : Member → List ℕ → ℕ → ℕ → Step
-  scan_part (known f k) s p e = then_seen (leaf_at (only k) s p e) λ a z. Next z
+  scan_part (known k) s p e = then_seen (leaf_at (only k) s p e) λ a z. Next z
   scan_part (one f i) s p e = scan i s p e
   scan_part (maybe f i) s p e = pick (begins_at (tag_of i) s p e) (scan i s p e) (Next p)
   scan_part (flag f) s p e = pick (begins_at boolean.tag s p e) (then_seen (leaf_at boolean s p e) λ a z. Next z) (Next p)

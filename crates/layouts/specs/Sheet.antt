@@ -1,4 +1,4 @@
--- The field sheet (01, "The field sheet"; RULES 4): "sections in a fixed order, each after its count, four bytes, big-endian". Assumes nothing.
+-- The field sheet (01, "The field sheet"): "sections in a fixed order, each after its count, four bytes, big-endian". Assumes nothing.
 use Rattle.std.specs.Prelude.{ℕ, suc, zero, ◌+◌, Bool, true, false, ◌||◌, List, [], ◌∷◌, ◌++◌, length, take, drop, leb, eqb}
 use Rattle.std.proofs.Math.Option.{Option, none, some}
 use Rattle.terms.specs.Numbers.{no_item, too_many_items, bad_sheet}
@@ -48,7 +48,7 @@ unfoldable mutual
   sheets (m ▸ r) v = sheet_part m v.0 ++ sheets r v.1
 
   pub sheet_part : (m : Member) → Part m → List ℕ
-  sheet_part (known f k) v = []
+  sheet_part (known k) v = []
   sheet_part (one f i) v = sheet i v
   sheet_part (maybe f i) v = sheet_option (λ x. sheet i x) v
   sheet_part (flag f) v = section (critical_byte v)
@@ -100,7 +100,7 @@ unfoldable mutual
   fills (m ▸ r) w p = bind (fill_part m w p) λ a. bind (fills r a.rest a.after) λ v. good (got (a.value, v.value) v.rest v.after)
 
   pub fill_part : (m : Member) → List ℕ → ℕ → Res (Got (Part m))
-  fill_part (known f k) w p = good (got tt w p)
+  fill_part (known k) w p = good (got tt w p)
   fill_part (one f i) w p = fill i w p
   fill_part (maybe f i) w p = fill_option (λ x q. fill i x q) w p
   fill_part (flag f) w p = fill_flag w p

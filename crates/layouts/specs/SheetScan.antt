@@ -75,7 +75,7 @@ unfoldable mutual
   sheet_scans (m ▸ r) s p e = then_step (sheet_scan_part m s p e) λ q. sheet_scans r s q e
 
   pub sheet_scan_part : Member → List ℕ → ℕ → ℕ → Step
-  sheet_scan_part (known f k) s p e = Next p
+  sheet_scan_part (known k) s p e = Next p
   sheet_scan_part (one f i) s p e = sheet_scan i s p e
   sheet_scan_part (maybe f i) s p e =
       then_count (count_at s p e) λ c. pick (eqb c 0) (Next (p + count_bytes)) (pick (eqb c 1) (sheet_scan i s (p + count_bytes) e) (Refused bad_sheet p))

@@ -1,4 +1,4 @@
--- A whole record and a whole sheet, and what is stored in a destination (RULES 3.6 and 5). Assumes nothing.
+-- A whole record and a whole sheet, and what is stored in a destination. Assumes nothing.
 -- `most` is the largest size of a record, header included.
 use Rattle.std.specs.Prelude.{ℕ, ◌≤◌, List, ◌++◌, length, drop, leb}
 use Rattle.terms.specs.Numbers.{done, left_over, too_large, bad_sheet, no_room}

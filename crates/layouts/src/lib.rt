@@ -1,4 +1,4 @@
-use terms::{Field, KnownName};
+use terms::Field;
 
 // What a whole reading, filling or writing answers: how many bytes it took or wrote, or the refusal's number and place.
 #[derive(Drop)]
@@ -14,11 +14,10 @@ pub enum Tally {
     Refused(u8, usize),
 }
 
-// Whose fault a refusal is: nothing's where there is none, the record's, a field's, or that of an item of one content.
+// Whose fault a refusal is: nothing's where there is none, the record's, or a field's.
 #[derive(Drop)]
 pub enum Whose {
     Nothing,
     Record,
     Field(Field),
-    Known(KnownName),
 }

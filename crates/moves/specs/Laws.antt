@@ -22,7 +22,6 @@ use Rattle.tags.specs.Tag.{tag_byte}
 use Rattle.layouts.specs.Layout.{Item, node, list, wrap, Members, tag_of}
 use Rattle.primitives.specs.declared.Content.{Content}
 use Rattle.primitives.specs.declared.Primitive.{Primitive}
-use Rattle.terms.specs.declared.KnownName.{KnownName}
 use Rattle.primitives.specs.declared.Word.{Word}
 use Rattle.primitives.specs.Primitive.{leaf_of, known_of, says}
 use Rattle.structures.specs.declared.Row.{Row}
@@ -327,9 +326,9 @@ module _ (from to : Side) (m : Member) (s : List ℕ) (p e : ℕ) (d : List ℕ)
   member_blank i = rw i
 
   module _ (w : Out) where
-    pub member_known : (f : KnownName) (c : Word) → m ≡ member.Known f c → w ≡ wrote (move_known from to (known_of c) s p e) d o → MovesMember w
+    pub member_known : (c : Word) → m ≡ member.Known c → w ≡ wrote (move_known from to (known_of c) s p e) d o → MovesMember w
     unfolding member_move
-    member_known f c i g = rw i g
+    member_known c i g = rw i g
 
     pub member_leaf : (f : Field) (l : Primitive) → m ≡ member.Leaf f l → w ≡ wrote (move_leaf from to (leaf_of l) s p e) d o → MovesMember w
     unfolding member_move
@@ -384,7 +383,7 @@ module _ (from to : Side) (m : Member) (s : List ℕ) (p e : ℕ) (d : List ℕ)
 row_split : (from to : Side) (m : Member) (ms : List Member) (s : List ℕ) (p e : ℕ) → moves from to (members_of (m ∷ ms)) s p e ≡ (join (member_move from to m s p e) λ q. moves from to (members_of ms) s q e)
 unfolding member_move move
 row_split from to member.Blank ms s p e = refl
-row_split from to (member.Known f w) ms s p e = refl
+row_split from to (member.Known w) ms s p e = refl
 row_split from to (member.Leaf f l) ms s p e = refl
 row_split from to (member.Part f x) ms s p e = refl
 row_split from to (member.Maybe f x) ms s p e = refl

@@ -49,7 +49,7 @@ module _ (from to : Side) where
     notes_all (m ▸ r) s p e = notes_part m s p e ++ notes_all r s (move_part from to m s p e).0 e
 
     pub notes_part : Part → List ℕ → ℕ → ℕ → List ℕ
-    notes_part (known f k) s p e = []
+    notes_part (known k) s p e = []
     notes_part (one f i) s p e = notes i s p e
     notes_part (maybe f i) s p e = pick (present_at from (tag_of i) s p e).0 (notes i s (present_at from (tag_of i) s p e).1 e) []
     notes_part (flag f) s p e = []
@@ -73,7 +73,7 @@ module _ (from to : Side) where
   -- a member of a row
   unfoldable pub member_notes : Member → List ℕ → ℕ → ℕ → List ℕ
   member_notes member.Blank s p e = []
-  member_notes (member.Known f w) s p e = []
+  member_notes (member.Known w) s p e = []
   member_notes (member.Leaf f l) s p e = []
   member_notes (member.Part f x) s p e = notes (layout_of x) s p e
   member_notes (member.Maybe f x) s p e = notes_part (maybe f (layout_of x)) s p e

@@ -34,7 +34,7 @@ module _ (from to : Side) where
   -- a member of a row
   unfoldable pub member_move : Member → List ℕ → ℕ → ℕ → Moved
   member_move member.Blank s p e = (p, [])
-  member_move (member.Known f w) s p e = move_known from to (known_of w) s p e
+  member_move (member.Known w) s p e = move_known from to (known_of w) s p e
   member_move (member.Leaf f l) s p e = move_leaf from to (leaf_of l) s p e
   member_move (member.Part f x) s p e = move from to (layout_of x) s p e
   member_move (member.Maybe f x) s p e = move_part from to (maybe f (layout_of x)) s p e

@@ -384,7 +384,7 @@ fn member(
 {
     match m {
         Member::Blank => here,
-        Member::Known(_, w) => {
+        Member::Known(w) => {
             let v = known_pieces::known(s, from, to, w, here.at, end, dst, here.pos);
             Spot {
                 at: v.next,

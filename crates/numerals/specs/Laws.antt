@@ -5,7 +5,7 @@ use Rattle.std.specs.Int.Signed.{lt_z, mag}
 use Rattle.std.specs.Int.{w64}
 use Rattle.terms.specs.Laws.Answer.{never}
 use Rattle.terms.specs.Digits.{digits}
-use Rattle.contents.specs.Integer.{turned, in_bytes, eight, shrink, content_of}
+use Rattle.contents.specs.Integer.{turned, eight, shrink, content_of}
 use Rattle.numbers.specs.Number.{digit_of, turned_if}
 use Rattle.numbers.specs.Laws.{bits}
 use Rattle.numerals.specs.Sign.{negative}
@@ -40,7 +40,7 @@ eight-bytes true m pa pb pc pd pe pf pg ph = simp (pa, pb, pc, pd, pe, pf, pg, p
 eight-bytes false m pa pb pc pd pe pf pg ph = simp (pa, pb, pc, pd, pe, pf, pg, ph, div-one)
 
 eight_by : (z : ℤ) → turned_if (negative z) (digits 256 8 (mag z)) ≡ eight z
-unfolding in_bytes
+unfolding eight
 eight_by (pos n) = refl
 eight_by (negsuc n) = refl
 

@@ -1,4 +1,4 @@
--- An answer as one number (03, 42; RULES 11). Assumes nothing.
+-- An answer as one number (03, 42). Assumes nothing.
 use Rattle.std.specs.Prelude.{ℕ, ◌+◌, ◌*◌, ◌%◌, List, [], ◌∷◌, ℤ, pos, negsuc}
 use Rattle.terms.specs.Answer.{Told, gives, refuses}
 

@@ -138,9 +138,9 @@ module _ (to : Side) (c : Word) (d : List ℕ) (o : ℕ) where
   known_none i = rw i (puts_none d o)
 
   module _ (w : ℕ × List ℕ) where
-    pub known-name : to ≡ side.Record → c ≡ word.HeaderName → w ≡ puts (leaf_out to (leaf_of primitive.HeaderName) (0x45 ∷ 0x53 ∷ [])) d o → w ≡ puts (known_out to (known_of c)) d o
+    pub known_name : to ≡ side.Record → c ≡ word.HeaderName → w ≡ puts (leaf_out to (leaf_of primitive.HeaderName) (0x45 ∷ 0x53 ∷ [])) d o → w ≡ puts (known_out to (known_of c)) d o
     unfolding known_out leaf_out
-    known-name i j g = rw j (rw i (rw i at g))
+    known_name i j g = rw j (rw i (rw i at g))
 
     pub known_version : to ≡ side.Record → c ≡ word.Version → w ≡ puts (leaf_out to (leaf_of primitive.Version) (0x04 ∷ [])) d o → w ≡ puts (known_out to (known_of c)) d o
     unfolding known_out leaf_out

@@ -1,7 +1,7 @@
 -- A table put into a destination number by number, and what a reading leaves there. Assumes nothing.
 use Rattle.std.specs.Prelude.{◌≡◌, ℕ, suc, ◌+◌, ◌<◌, ◌≤◌, List, [], ◌∷◌, ◌++◌, take, drop, get_or, set}
 use Rattle.std.proofs.Math.Path.{refl}
-use Rattle.std.proofs.Common.{sym, ap, ◌∙◌, append_assoc, take-suc, drop-cons, length-take-le}
+use Rattle.std.proofs.Common.{ap, ◌∙◌, append_assoc, take-suc, drop-cons, length-take-le}
 use native.Mathlib.Omega.{arith}
 use Rattle.std.proofs.Math.ListN.{length}
 use Rattle.std.proofs.lemmas.List.{set_at}
@@ -11,9 +11,7 @@ use Rattle.terms.specs.Numbers.{largest_record, no_room}
 use Rattle.terms.specs.Answer.{Res, good, fault, pick, answered}
 use Rattle.terms.specs.Laws.Answer.{never}
 use Rattle.layouts.specs.Layout.{Members, Values}
-use Rattle.layouts.specs.Fields.{fields}
 use Rattle.layouts.specs.Places.{table_size, Placed}
-use Rattle.layouts.specs.Laws.Places.{placed_once}
 use Rattle.layouts.specs.Whole.{accept, told_outcome}
 use Rattle.layouts.specs.declared.Outcome.{Outcome}
 use Rattle.layouts.specs.declared.Outcome.TheVariants.{Length, Refused}
@@ -21,7 +19,7 @@ use Rattle.records.specs.declared.Record.{Record}
 use Rattle.records.specs.Handing.{layout_of, told_record, read_record, fields_of}
 use Rattle.records.specs.Laws.Handing.{fields_in_lem}
 use Rattle.fields.specs.Laws.{was_read, placed_in}
-use Rattle.place_tables.specs.Table.{put_table, table_answer, TableIn, TableAfter}
+use Rattle.place_tables.specs.Table.{put_table, table_answer, TableAfter}
 
 -- ---- number by number
 
@@ -90,13 +88,3 @@ module _ (x : Record) (w : List ℕ) (m : Members) (i : m ≡ layout_of x) (o : 
         let (v, a) = was_read (layout_of x) w m i o t l h in
         let f = fields_in_lem (layout_of x) w v a in
         rw a (p, s, rw f at (placed_in (layout_of x) w m i o t k p pl), e)
-
--- ---- the contract admits one destination: a table of these fields is the only one
-
-pub one_table_after : (m : Members) (w : List ℕ) (i : ℕ) (d x y : List ℕ) → TableAfter m w i d x → TableAfter m w i d y → x ≡ y
-unfolding TableAfter
-one_table_after m w i d x y = go (read_record m w)
-  where
-    go : (r : Res (Values m)) → TableIn m r i d x → TableIn m r i d y → x ≡ y
-    go (good v) (p, l, h, e) (q, k, g, f) = e ∙ ap (λ (z : List ℕ). put_table z d) (placed_once i (fields m v) p q l k h g) ∙ sym f
-    go (fault n p) e f = e ∙ sym f

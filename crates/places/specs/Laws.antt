@@ -5,14 +5,15 @@ use Rattle.std.proofs.Math.Bool.{and-true, and-false}
 use Rattle.terms.specs.declared.Field.{Field}
 use Rattle.terms.specs.Answer.{pick}
 use Rattle.terms.specs.Laws.Answer.{and_l, and_r}
-use Rattle.layouts.specs.Places.{wanted, slot}
+use Rattle.layouts.specs.Places.{wanted_at, wanted, slot}
 use Rattle.layouts.specs.Marks.{free, filled, noted}
 
 module _ (d : List ℕ) (n k : ℕ) (b : Bool) (f : b ≡ free d n) where
   pub not_free : b ≡ false → false ≡ eqb k (wanted d) && free d n
   not_free h = rw (← f, h, and-false (eqb k (wanted d)))
 
-  pub if_wanted : (x : ℕ) → b ≡ true → x ≡ wanted d → eqb k x ≡ eqb k (wanted d) && free d n
+  pub if_wanted : (x : ℕ) → b ≡ true → x ≡ get_or d wanted_at 0 → eqb k x ≡ eqb k (wanted d) && free d n
+  unfolding wanted
   if_wanted x h e = rw (← f, h, ← e, and-true (eqb k x))
 
 module _ (f : Field) (k a z i : ℕ) (d : List ℕ) (n : ℕ) (b : Bool) (q : n ≡ slot f) (e : b ≡ eqb k (wanted d) && free d n) where

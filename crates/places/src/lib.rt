@@ -1,6 +1,5 @@
 // The table of places: under each name whether the field is there, where it starts, how many bytes it has, and of a list how many items;
-// after them the index of the items that are wanted of the lists; what stands in no list is wanted whatever the index. A table that has a number
-// more holds there the name of what was refused.
+// after them the index of the item that is wanted of a list. A table that has a number more holds there the name of the field that was refused.
 ghost use Rattle.std.specs.Prelude.{◌≡◌, ◌+◌, ◌-◌, ◌<◌, ◌&&◌, length as size, eqb};
 ghost use Rattle.layouts.specs.Places.{table_size, wanted};
 ghost use Rattle.layouts.specs.Laws.Places.{blank as blankTable};
@@ -57,13 +56,6 @@ pub fn blank(index: usize) -> [usize; TABLE_SIZE]
     places
 }
 
-// The index that is wanted of the items of the lists; of a table with no room for it 0.
-pub fn wanted_index(places: &[usize]) -> usize
-    ensures { result ≡ wanted places.now }
-{
-    lookups::number_at(places, WANTED_AT)
-}
-
 // Whether a field of an index is to be noted in four numbers: they are free, and it is wanted.
 fn takes(places: &[usize], n: usize, index: usize) -> bool
     requires { n < table_size }
@@ -72,7 +64,7 @@ fn takes(places: &[usize], n: usize, index: usize) -> bool
     if !is_free(places, n) {
         return false;
     }
-    index == wanted_index(places)
+    index == lookups::number_at(places, WANTED_AT)
 }
 
 // Notes a field under its name, once, if its index is wanted and the table has room for it.

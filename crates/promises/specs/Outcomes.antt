@@ -8,7 +8,6 @@ use Rattle.layouts.specs.Fields.{Entry}
 use Rattle.layouts.specs.Places.{table_size, Placed}
 use Rattle.layouts.specs.Laws.Places.{placed_once}
 use Rattle.layouts.specs.Whole.{told_outcome}
-use Rattle.layouts.specs.declared.Whose.{Whose}
 use Rattle.layouts.specs.declared.Outcome.{Outcome}
 use Rattle.layouts.specs.declared.Outcome.TheVariants.{Length, Refused as NotDone}
 use Rattle.records.specs.Part.{PartOf}
@@ -21,7 +20,7 @@ use Rattle.records.specs.declared.Critical.{Critical}
 use Rattle.records.specs.declared.Critical.TheVariants.{Is, Absent as NoCritical, Refused as CriticalRefused}
 use Rattle.records.specs.declared.Items.{Items}
 use Rattle.records.specs.declared.Items.TheVariants.{Count, Absent as NoItems, Refused as ItemsRefused}
-use Rattle.runs.specs.Run.{Reader, at, held, told_stepped, told_counted}
+use Rattle.runs.specs.Run.{held, told_stepped, told_counted}
 use Rattle.runs.specs.declared.Moved.{Moved}
 use Rattle.runs.specs.declared.Stepped.{Stepped}
 use Rattle.runs.specs.declared.Stepped.TheVariants.{Record, End, Refused as StepRefused}
@@ -67,11 +66,6 @@ one_part_of s r r' p h k = (one_equation _ _ _ h.lies k.lies, one_equation _ _ _
 -- of the table of places beside it: four numbers for each of 43 names, the index that was wanted, and no other
 pub one_table : (i : ℕ) (xs : List Entry) (d d' : List ℕ) → length d ≡ table_size → length d' ≡ table_size → Placed i xs d → Placed i xs d' → d ≡ d'
 one_table = placed_once
-
--- of a reading that says what its refusal is about, and of the table of the places that were passed beside it
-pub one_fault : (x y : Outcome) (t : Told) (w w' z : Whose) (i : ℕ) (xs : List Entry) (d d' : List ℕ) → length d ≡ table_size → length d' ≡ table_size
-    → (told_outcome x ≡ t) × (w ≡ z) × Placed i xs d → (told_outcome y ≡ t) × (w' ≡ z) × Placed i xs d' → (x ≡ y) × (w ≡ w') × (d ≡ d')
-one_fault x y t w w' z i xs d d' l l' h k = (one_outcome x y (one_equation _ _ t h.0 k.0), one_equation w w' z h.1 k.1, one_table i xs d d' l l' h.2 k.2)
 
 abbrev part : Told → Part
 part (gives n []) = NoPart
@@ -142,13 +136,6 @@ one_step = one_answer told_stepped stepped stepped_back
 -- of what is held after a step beside it
 pub one_move : (x y : Moved) → told_stepped x.answer ≡ told_stepped y.answer → held x ≡ held y → x ≡ y
 one_move x y e h = λ i. record { position = (h i).position; handed = (h i).handed; answer = one_step x.answer y.answer e i }
-
--- of a run reader after a step: its run, its position and its number, and the answer
-pub one_after : (s s' z : Bor (List ℕ)) (p p' k k' : ℕ) (x y : Stepped) (t : Told) (r : Reader) → (s ≡ z) × (told_stepped x ≡ t) × (at p k ≡ r) → (s' ≡ z) × (told_stepped y ≡ t) × (at p' k' ≡ r)
-    → (s ≡ s') × (p ≡ p') × (k ≡ k') × (x ≡ y)
-one_after s s' z p p' k k' x y t r h g =
-    let e : at p k ≡ at p' k' = one_equation _ _ r h.2 g.2 in
-    (one_equation s s' z h.0 g.0, ap (λ (q : Reader). q.position) e, ap (λ (q : Reader). q.handed) e, one_step x y (one_equation _ _ t h.1 g.1))
 
 abbrev counted : Told → Counted
 counted (gives n xs) = Records (nat 0 xs)

@@ -1,24 +1,21 @@
 -- What the project promises its user, over the definitions of the rules. Read this page first. What stands in quotes is from the three
 -- demands, with which docs/PROMISES.md begins, or from document 01. Assumes nothing.
 -- A record is a seal or a signature record: `seal` and `signature` are the layouts of document 01, `v` is a record's field values.
-use Rattle.std.specs.Prelude.{◌≡◌, Bool, true, false, not, ◌&&◌, ◌||◌, ◌⊎◌, List, [], ◌∷◌, ◌++◌, map, ℕ, ◌+◌, ◌^◌, ◌≤◌, ◌<◌, length, get_or, take, drop, ℤ, T, leb, eqb}
-use Rattle.std.proofs.Math.Path.{refl, sym, ap}
-use Rattle.std.proofs.Common.{◌∙◌, subst, arith, le→leb}
+use Rattle.std.specs.Prelude.{◌≡◌, refl, Bool, false, not, ◌&&◌, ◌⊎◌, List, [], ◌∷◌, ◌++◌, map, ℕ, ◌+◌, ◌≤◌, ◌<◌, length, get_or, take, drop, ℤ, T, leb}
+use Rattle.std.proofs.Common.{sym, ap, ◌∙◌, subst, arith, le→leb}
 use Rattle.std.proofs.Math.Option.{none, some}
 use Rattle.std.proofs.lemmas.Bool.{lt-leb}
 use Rattle.std.specs.Borrow.{Bor}
 use Rattle.terms.specs.declared.Field.{Field}
-use Rattle.terms.specs.declared.Field.TheVariants.{SignedPart, SealInformation, ListedCertificate, ListedEntry, ListedType, ListedDigest, SealCustomItem, SealCustomId, SealCustomCritical, SealCustomValue, SignedCustomItem, SignedCustomId, SignedCustomCritical, SignedCustomValue}
-use Rattle.terms.specs.Names.{names}
-use Rattle.terms.specs.Numbers.{one_of, record_numbers, sheet_numbers, largest_record, too_large, no_room, unreal_time, done, run_end}
-use Rattle.terms.specs.Answer.{Res, good, fault, Got, got, pick, bind, need, every, answered, bit, Told, gives, told_one, told_two, told_none, refusal}
-use Rattle.terms.specs.Laws.Answer.{good_inj, and_r, or_r, bind_eq, need_eq}
-use Rattle.terms.specs.Laws.Refusals as Refusals
+use Rattle.terms.specs.declared.Field.TheVariants.{SignedPart, SealInformation}
+use Rattle.terms.specs.Numbers.{largest_record, too_large, no_room, unreal_time, done, run_end}
+use Rattle.terms.specs.Answer.{Res, good, fault, Got, got, bind, need, every, answered, bit, Told, gives, told_one, told_two, told_none, refusal}
+use Rattle.terms.specs.Laws.Answer.{good_inj, and_r, bind_eq, need_eq}
 use Rattle.terms.specs.Digits.{is_byte}
-use Rattle.contents.specs.Integer.{section_bytes, value, content_of, well_formed, Fits, eight, stretch}
+use Rattle.contents.specs.Integer.{value, content_of, well_formed, Fits, eight, stretch}
 use Rattle.contents.specs.Laws.Integer.{value-content_of, content_of-value, content_of-well_formed, eight-stretch}
 use Rattle.layouts.specs.Layout.{node, Members, Values, Oks, All}
-use Rattle.layouts.specs.Sheet.{count_bytes, sheets}
+use Rattle.layouts.specs.Sheet.{sheets}
 use Rattle.layouts.specs.Whole.{sequence, record_of, Allowed, record_at, accept_sheet, fill_sheet, write_record}
 use Rattle.layouts.specs.Fields.{Entry, fields, Stands, is_field, first}
 use Rattle.layouts.specs.Places.{under, numbers_of, Placed}
@@ -27,30 +24,24 @@ use Rattle.layouts.specs.Passed.{record_passed}
 use Rattle.layouts.specs.declared.Whose.TheVariants.{Nothing}
 use Rattle.layouts.specs.Laws.About as About
 use Rattle.layouts.specs.Laws.Passing as Passing
-use Rattle.layouts.specs.Laws.Index.{in_no_list, unlisted_all}
-use Rattle.layouts.specs.Laws.Index as Index
 use Rattle.layouts.specs.Laws.Stand as Stand
 use Rattle.layouts.specs.Laws.Reading.{clear, clears, spare}
 use Rattle.layouts.specs.Laws.Whole.{Wrote, Kept}
 use Rattle.layouts.specs.Laws.Whole as Whole
-use Rattle.layouts.specs.Laws.Refusals.{FairAll as Fair}
-use Rattle.layouts.specs.Laws.Refusals as Refuse
 use Rattle.layouts.specs.Laws.Fields.{None, First, fields_stand, stands_cut, first-sought, first_holds}
 use Rattle.records.specs.Record.{seal_information, seal, signed_part, signature}
 use Rattle.records.specs.Part.{PartOf, Lies}
-use Rattle.records.specs.Handing.{read_record, record_answer, fields_of, fields_in, seek, handed_out, is_one_of, fill_answer, fill_after, write_answer, write_after, is_among, told_place, part_names, field_answer, is_listed, match_answer, integer_names, value_answer, is_owner, told_critical, critical_answer, list_names, count_answer, signed_bytes, information_of, signed_part_of, seal_of}
+use Rattle.records.specs.Handing.{read_record, record_answer, fields_in, seek, handed_out, fill_answer, fill_after, write_answer, write_after, is_among, told_place, part_names, field_answer, is_listed, match_answer, integer_names, value_answer, is_owner, told_critical, critical_answer, list_names, count_answer, signed_bytes, information_of, signed_part_of, seal_of}
 use Rattle.records.specs.Laws.Record as Record
 use Rattle.records.specs.Laws.Handing.{Tells}
 use Rattle.records.specs.Laws.Handing as Handing
 use Rattle.runs.specs.Run.{run_of, Ran, whole, stopped, read_run, run_answer, Reader, at, made, here_at, top, one_more, step_after, step_answer, refusal_after}
 use Rattle.runs.specs.Laws.Run as Runs
-use Rattle.verdicts.specs.Verdict.{Step, first_failing, Facts, facts_of, stamped, Rulebook, signature_rules, seal_rules, maker_out, judged, weigh, verdict, told_verdict}
+use Rattle.verdicts.specs.Verdict.{Step, first_failing, Facts, facts_of, stamped, Rulebook, signature_rules, seal_rules, maker_out, judged, verdict, told_verdict}
 use Rattle.verdicts.specs.Findings.{all_real}
-use Rattle.verdicts.specs.Laws.Verdict.{FirstFailing, table_numbers, is_of_stamp, unstamped_steps, takes_notice}
+use Rattle.verdicts.specs.Laws.Verdict.{FirstFailing, is_of_stamp, unstamped_steps, takes_notice}
 use Rattle.verdicts.specs.Laws.Verdict as Verdict
 use Rattle.verdicts.specs.declared.Findings.{Findings}
-use Rattle.verdicts.specs.declared.Verdict.{Verdict}
-use Rattle.verdicts.specs.declared.Verdict.TheVariants.{Judged, Refused}
 
 -- The layouts that the promises are about: what may be missing in them cannot be mistaken for what follows, what is known is inside its
 -- rule, and no list is too long to count. The two that document 01 gives are such.
@@ -62,16 +53,6 @@ the-seal = Record.seal-clear
 
 pub the-signature : Clear signature
 the-signature = Record.signature-clear
-
--- the names that something in their lists has
-abbrev pub item_names : List Field
-item_names =
-    ListedCertificate ∷ ListedEntry ∷ ListedType ∷ ListedDigest ∷ SealCustomItem ∷ SealCustomId ∷ SealCustomCritical ∷ SealCustomValue
-    ∷ SignedCustomItem ∷ SignedCustomId ∷ SignedCustomCritical ∷ SignedCustomValue ∷ []
-
-pub the-other-names : T (every (λ f. is_one_of item_names f || (in_no_list f seal && in_no_list f signature)) names)
-unfolding every unlisted_all
-the-other-names = tt
 
 -- a value inside the rules, whose record is not too large
 abbrev pub Right : (r : Members) → Values r → Type 0
@@ -172,34 +153,6 @@ module _ (r : Members) (k : Clear r) where
   pub accepted_passes_all : (w : List ℕ) (v : Values r) → read_record r w ≡ good v → record_passed largest_record r w ≡ fields r v
   accepted_passes_all w v e = Passing.accepted-passed largest_record r w v e
 
-  -- "in a list by index": elsewhere the index changes nothing. A field whose name nothing in a list has is found by every index or by none, and
-  -- stands so in the table of places, also in that of the fields that were passed
-  module _ (f : Field) (t : T (in_no_list f r)) (w : List ℕ) (i j : ℕ) where
-    passed_alike : first (is_field f i) (record_passed largest_record r w) ≡ first (is_field f j) (record_passed largest_record r w)
-    passed_alike = Index.alike-passed f i j largest_record r t w
-
-    fields_alike : (v : Values r) → read_record r w ≡ good v → first (is_field f i) (fields r v) ≡ first (is_field f j) (fields r v)
-    fields_alike v e = rw (accepted_passes_all w v e) at passed_alike
-
-    pub elsewhere_every_index_finds_it : seek r (is_field f i) w ≡ seek r (is_field f j) w
-    unfolding seek bind
-    elsewhere_every_index_finds_it = go (read_record r w) refl
-      where
-        go : (x : Res (Values r)) → read_record r w ≡ x → (bind x λ v. good (first (is_field f i) (fields r v))) ≡ (bind x λ v. good (first (is_field f j) (fields r v)))
-        go (good v) e = ap good (fields_alike v e)
-        go (fault n p) e = refl
-
-    pub elsewhere_every_table_has_it : (d d' : List ℕ) → Placed i (fields_in r w) d → Placed j (fields_in r w) d' → under f d ≡ under f d'
-    unfolding first
-    elsewhere_every_table_has_it d d' h g = h.1 f ∙ ap numbers_of (go (read_record r w) refl) ∙ sym (g.1 f)
-      where
-        go : (x : Res (Values r)) → read_record r w ≡ x → first (is_field f i) (fields_of r x) ≡ first (is_field f j) (fields_of r x)
-        go (good v) e = fields_alike v e
-        go (fault n p) e = refl
-
-    pub elsewhere_passed_whatever_the_index : (d d' : List ℕ) → Placed i (record_passed largest_record r w) d → Placed j (record_passed largest_record r w) d' → under f d ≡ under f d'
-    elsewhere_passed_whatever_the_index d d' h g = h.1 f ∙ ap numbers_of passed_alike ∙ sym (g.1 f)
-
   -- a part that is handed out is the field's own bytes, and lies where they lie in the caller's record; of a refused record, or where no such field
   -- is there, it has no bytes and lies at the record's start. `z` is a part of `s` by a contract: of an accessor, or of the matching entry
   module _ (s z : Bor (List ℕ)) where
@@ -221,17 +174,12 @@ module _ (r : Members) (k : Clear r) where
 
   -- ---- sheets
 
-  -- what is taken for a sheet is the sheet of a value inside the rules and nothing else
+  -- what is taken for a sheet is a right value's sheet and nothing else, and the sheet of every accepted record is taken
   pub sheet_is_right : (x : List ℕ) (v : Values r) → accept_sheet r x ≡ good v → (x ≡ sheets r v) × Oks r v
   sheet_is_right x v e = Whole.sheet-back largest_record r x v e
 
-  -- and the sheet of every such value is taken, also of one whose record would be too large. A count has four bytes: no sheet of 2 ^ 32 bytes is promised,
-  pub right_is_a_sheet : (v : Values r) → Oks r v → length (sheets r v) < 256 ^ count_bytes → accept_sheet r (sheets r v) ≡ good v
-  right_is_a_sheet v ok h = Whole.sheet-there largest_record r inner v ok h
-
-  -- and an accepted record's never has so many
-  pub accepted_has_a_sheet : (w : List ℕ) (v : Values r) → read_record r w ≡ good v → accept_sheet r (sheets r v) ≡ good v
-  accepted_has_a_sheet w v e = Whole.sheet-taken largest_record r k Record.record-spelled w v e
+  pub right_is_a_sheet : (w : List ℕ) (v : Values r) → read_record r w ≡ good v → accept_sheet r (sheets r v) ≡ good v
+  right_is_a_sheet w v e = Whole.sheet-taken largest_record r k Record.record-spelled w v e
 
   -- "On any refusal the destination keeps all its bytes; on success only the reported number of first bytes changes."
   -- What a caller with the destination `d` is answered and finds in it, in every case: a sheet that is filled from a record,
@@ -289,7 +237,7 @@ module _ (r : Members) (k : Clear r) where
   record_sheet_record w v e d d' h h' =
       let a = accepted_is_right w v e in
       let l : length (record_of r v) ≤ length d' = rw (← a.0) h' in
-      (sheets r v, record_fills_its_sheet w d v e h, rw (← a.0) at (sheet_writes_its_record (sheets r v) d' v (accepted_has_a_sheet w v e) a.1.1 l))
+      (sheets r v, record_fills_its_sheet w d v e h, rw (← a.0) at (sheet_writes_its_record (sheets r v) d' v (right_is_a_sheet w v e) a.1.1 l))
 
   pub sheet_record_sheet : (x : List ℕ) (v : Values r) → accept_sheet r x ≡ good v → length (record_of r v) ≤ largest_record → (d d' : List ℕ) → length (record_of r v) ≤ length d → length x ≤ length d'
       → (w : List ℕ) × Written x d w × Filled w d' x
@@ -369,39 +317,6 @@ module _ (r : Members) (k : Clear r) where
       go (whole vs) e = let b = Runs.run-back r w vs e in subst (λ (s : List ℕ). StepsThrough s vs (told_none run_end)) (sym b.0) (reader_steps_through vs b.1 (rw (← b.0) h))
       go (stopped vs n p) e = steps_through w vs (refusal_after n p (length vs)) (refused_run_stops w vs n p e).2 (Runs.stop-walked r inner w vs n p e h)
 
--- ---- which numbers can arise, and where: of every layout whose values are refused with numbers of values. The two of document 01 are such.
-
-pub the_seal_is_fair : Fair seal
-the_seal_is_fair = Record.seal-fair
-
-pub the_signature_is_fair : Fair signature
-the_signature_is_fair = Record.signature-fair
-
-module _ (r : Members) (k : Fair r) where
-  -- a record is refused with 1 to 17, at a place that is not past its end
-  pub record_numbers_alone : (w : List ℕ) (n p : ℕ) → read_record r w ≡ fault n p → T (one_of record_numbers n) × (p ≤ length w)
-  record_numbers_alone w n p e = Refusals.refused record_numbers (length w) _ n p (Refuse.accept-refuses largest_record r k w) e
-
-  -- and so is a run, wherever its reader stands
-  pub run_numbers_alone : (s : List ℕ) (q n p : ℕ) → here_at r s q ≡ fault n p → T (one_of record_numbers n) × (p ≤ length s)
-  run_numbers_alone s q n p e = Runs.here-refused r k s q n p e
-
-  -- "In a sheet the numbers that can arise are 7, 9, 10, 11, 14, 15, 16 and 19"
-  pub sheet_numbers_alone : (x : List ℕ) (n p : ℕ) → accept_sheet r x ≡ fault n p → T (one_of sheet_numbers n) × (p ≤ length x)
-  sheet_numbers_alone x n p e = Refusals.refused sheet_numbers (length x) _ n p (Refuse.sheet-refuses r k x) e
-
--- "then 17, then 20": a writer refuses as the sheet is refused, or with 17 at 0, or with 20 and the bytes needed; a reader that fills a sheet as the record is
--- refused, or with 20 and the bytes needed
-pub write_refuses_with : (r : Members) (x d : List ℕ) (n p : ℕ) → write_answer r x d ≡ refusal n p
-    → (accept_sheet r x ≡ fault n p) ⊎ ((v : Values r) × (accept_sheet r x ≡ good v) × (((n ≡ too_large) × (p ≡ 0)) ⊎ ((n ≡ no_room) × (p ≡ length (record_of r v)))))
-unfolding write_answer
-write_refuses_with r x d n p e = Refuse.write-refused largest_record r x (length d) n p (Refusals.refused-told _ _ n p e)
-
-pub fill_refuses_with : (r : Members) (w d : List ℕ) (n p : ℕ) → fill_answer r w d ≡ refusal n p
-    → (read_record r w ≡ fault n p) ⊎ ((v : Values r) × (read_record r w ≡ good v) × ((n ≡ no_room) × (p ≡ length (sheets r v))))
-unfolding fill_answer
-fill_refuses_with r w d n p e = Refuse.fill-refused largest_record r w (length d) n p (Refusals.refused-told _ _ n p e)
-
 -- "no record is the beginning of a longer one": of whichever kind the two are
 pub no_beginning : (r q : Members) (w x : List ℕ) (u : Values r) (v : Values q) → read_record r w ≡ good u → read_record q x ≡ good v → (rest : List ℕ) → w ++ rest ≡ x → rest ≡ []
 no_beginning r q w x u v e g rest h = Record.no-beginning r q w x u v e g rest h
@@ -453,29 +368,6 @@ module _ (b : Rulebook) (w : List ℕ) (f : Findings) (original signer : List �
     unfolding verdict judged
     verdict_is_the_first h = (rw (e, Verdict.weigh-judged b v f original signer h), Verdict.first-failing b.steps b.passed facts)
 
--- a verdict has a number of its table, or it is refused: as the record is, or with 18
-abbrev pub VerdictOf : Rulebook → List ℕ → Verdict → Type 0
-VerdictOf b w (Judged n notice) = T (one_of (table_numbers b) n)
-VerdictOf b w (Refused n p) = T (one_of (unreal_time ∷ record_numbers) n) × (p ≤ length w)
-
-pub verdict_numbers_alone : (b : Rulebook) → Fair b.layout → (w : List ℕ) (f : Findings) (original signer : List ℕ) → VerdictOf b w (verdict b w f original signer)
-unfolding verdict weigh judged pick
-verdict_numbers_alone b k w f original signer = go (read_record b.layout w) refl
-  where
-    real : (v : Values b.layout) (t : Bool) → VerdictOf b w (pick t (judged b (facts_of b.layout v f original signer)) (Refused unreal_time 0))
-    real v true = Verdict.answer-number b (facts_of b.layout v f original signer)
-    real v false = (tt, omega arith)
-
-    go : (x : Res (Values b.layout)) → read_record b.layout w ≡ x → VerdictOf b w (weigh b x f original signer)
-    go (good v) e = real v (all_real f)
-    go (fault n p) e = let h = record_numbers_alone b.layout k w n p e in (or_r (eqb n unreal_time) (one_of record_numbers n) h.0, h.1)
-
-pub signature_verdict_numbers : table_numbers signature_rules ≡ 0 ∷ 21 ∷ 22 ∷ 23 ∷ 24 ∷ 26 ∷ 27 ∷ 28 ∷ 29 ∷ 30 ∷ 31 ∷ 32 ∷ 33 ∷ 34 ∷ []
-signature_verdict_numbers = refl
-
-pub seal_verdict_numbers : table_numbers seal_rules ≡ 0 ∷ 23 ∷ 24 ∷ 25 ∷ 26 ∷ []
-seal_verdict_numbers = refl
-
 -- "With no stamp in the record 32 to 34 never arise.": the answer has none of these numbers, and is the first failing row of the table without their rows
 pub no_stamp_no_step_h : (x : Facts) → stamped x ≡ false
     → (is_of_stamp (first_failing signature_rules.steps signature_rules.passed x).number ≡ false)
@@ -492,12 +384,12 @@ no_notice_with_a_seal x = Verdict.seal-notice x
 
 -- ---- integers: "One to eight two's-complement bytes become i64 and return", for every i64, both ends included
 
-pub integer-there : (z : ℤ) → Fits section_bytes z → T (well_formed (content_of z)) × (value (content_of z) ≡ z)
+pub integer-there : (z : ℤ) → Fits z → T (well_formed (content_of z)) × (value (content_of z) ≡ z)
 integer-there z h = (content_of-well_formed z, value-content_of z h)
 
-pub integer_back : (c : List ℕ) → T (every is_byte c) → T (well_formed c) → (content_of (value c) ≡ c) × Fits section_bytes (value c)
+pub integer_back : (c : List ℕ) → T (every is_byte c) → T (well_formed c) → (content_of (value c) ≡ c) × Fits (value c)
 integer_back c h k = content_of-value c h k
 
 -- "An integer is a section of 8 bytes.": those of its number, big-endian, in two's complement
-pub integer-section : (c : List ℕ) → T (every is_byte c) → T (well_formed c) → stretch section_bytes c ≡ eight (value c)
+pub integer-section : (c : List ℕ) → T (every is_byte c) → T (well_formed c) → stretch c ≡ eight (value c)
 integer-section c h k = sym (eight-stretch c h k)

@@ -1,4 +1,4 @@
--- "Proved, as a single table with a single statement": P1 to P14 of document 01 (RULES 13.2). Assumes nothing.
+-- "Proved, as a single table with a single statement": P1 to P14 of document 01. Assumes nothing.
 use Rattle.std.specs.Prelude.{◌≡◌, ℕ, true, List, [], ◌∷◌, negsuc}
 use Rattle.terms.specs.Numbers.{done}
 use Rattle.terms.specs.Answer.{Res, good, fault, Got, Told, gives, refuses, told_none, told_one, refusal, answered, may_be_empty}

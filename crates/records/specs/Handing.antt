@@ -1,4 +1,4 @@
--- Reading a seal and a signature record, filling and writing their sheets, and handing out (01, "Handing out"; RULES 5 and 7). Assumes nothing.
+-- Reading a seal and a signature record, filling and writing their sheets, and handing out (01, "Handing out"). Assumes nothing.
 use Rattle.std.specs.Prelude.{ℕ, Bool, false, ◌&&◌, ◌||◌, List, [], ◌∷◌, length}
 use Rattle.std.proofs.Math.Option.{Option, none, some}
 use Rattle.terms.specs.declared.Field.{Field}

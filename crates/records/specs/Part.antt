@@ -1,4 +1,4 @@
--- A part of a lent record: "handed out as a part of the lent record, never a copy" (01, "Handing out"; RULES 7.1). Assumes nothing.
+-- A part of a lent record: "handed out as a part of the lent record, never a copy" (01, "Handing out"). Assumes nothing.
 use Rattle.std.specs.Prelude.{◌≡◌, ℕ, ◌+◌, List, take, drop}
 use Rattle.std.specs.Borrow.{Bor}
 

@@ -1,7 +1,6 @@
--- The layouts of document 01, "Layout (000, 6.1 and 7.1)" (RULES 1.2), line by line; the parts of a structure stand above it. Assumes nothing.
+-- The layouts of document 01, "Layout (000, 6.1 and 7.1)", line by line; the parts of a structure stand above it. Assumes nothing.
 use Rattle.terms.specs.declared.Field.{Field}
 use Rattle.terms.specs.declared.Field.TheVariants.{SealInformation, Header, Vendor, SealId, Property, SealType, SealName, ListKind, CertificateList, ListedCertificate, ListedEntry, ListedType, ListedDigest, Created, Start, End, Picture, PictureType, PictureData, Width, Height, SealCustomData, SealCustomItem, SealCustomId, SealCustomCritical, SealCustomValue, MakerCertificate, SealAlgorithm, SealSignedValue, SignedPart, Seal, SigningTime, OriginalDigest, PropertyText, SignedCustomData, SignedCustomItem, SignedCustomId, SignedCustomCritical, SignedCustomValue, SignerCertificate, SignatureAlgorithm, SignatureValue, Stamp}
-use Rattle.terms.specs.declared.KnownName.TheVariants.{HeaderName, SealVersion, SignatureVersion}
 use Rattle.terms.specs.Numbers.{most_items}
 use Rattle.terms.specs.Answer.{may_be_empty, never_empty}
 use Rattle.contents.specs.Integer.{any, is_kind, says_kind1, is_millimetres}
@@ -27,7 +26,7 @@ tagged_0 i = wrap 0xA0 i
 
 -- "Header, SEQUENCE: IA5String "ES"; INTEGER 4; vendor, IA5String."
 abbrev pub header : Members
-header = known HeaderName header_name ▸ known SealVersion version ▸ field Vendor (ia5_string may_be_empty) ▸ end
+header = known header_name ▸ known version ▸ field Vendor (ia5_string may_be_empty) ▸ end
 
 -- "Certificate list, SEQUENCE of 1 to 64 items. Kind 1: each a certificate, OCTET STRING."
 abbrev pub certificates : Item
@@ -93,7 +92,7 @@ seal = part SealInformation seal_information ▸ field MakerCertificate (octet_s
 -- custom data, [0], optional."
 abbrev pub signed_part : Members
 signed_part =
-    known SignatureVersion version ▸ part Seal seal ▸ field SigningTime generalized_time ▸ field OriginalDigest bit_string ▸ field PropertyText (ia5_string never_empty)
+    known version ▸ part Seal seal ▸ field SigningTime generalized_time ▸ field OriginalDigest bit_string ▸ field PropertyText (ia5_string never_empty)
     ▸ maybe SignedCustomData (tagged_0 signed_custom_data) ▸ end
 
 -- "Signature record, SEQUENCE: signed part; signer certificate, OCTET STRING; algorithm; signature, BIT STRING; stamp, [0] BIT STRING, optional."

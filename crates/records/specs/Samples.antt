@@ -1,4 +1,4 @@
--- Record S of document 01 (RULES 13.1), and record D, in which no two fields of one kind have the same content; and the sheet of each. Assumes nothing.
+-- Record S of document 01, and record D, in which no two fields of one kind have the same content; and the sheet of each. Assumes nothing.
 use Rattle.std.specs.Prelude.{ℕ, List, [], ◌∷◌}
 
 -- "Record S: vendor and name empty; id "A"; type 1; kind 1; list of one certificate AA; created and start 20240101000000Z; end 20241231235959Z;

@@ -21,7 +21,7 @@ choice_of f p c g x y = choose f (leaf_of p) (says c) g (layout_of x) (layout_of
 abbrev pub members_of : List Member → Members
 members_of [] = end
 members_of (member.Blank ∷ ms) = members_of ms
-members_of (member.Known f w ∷ ms) = known f (known_of w) ▸ members_of ms
+members_of (member.Known w ∷ ms) = known (known_of w) ▸ members_of ms
 members_of (member.Leaf f p ∷ ms) = one f (leaf (leaf_of p)) ▸ members_of ms
 members_of (member.Part f x ∷ ms) = one f (layout_of x) ▸ members_of ms
 members_of (member.Maybe f x ∷ ms) = maybe f (layout_of x) ▸ members_of ms

@@ -31,7 +31,7 @@ unfoldable mutual
   sizes (m ▸ r) = size_part m + sizes r
 
   pub size_part : Part → ℕ
-  size_part (known f k) = 0
+  size_part (known k) = 0
   size_part (one f i) = suc (size i)
   size_part (maybe f i) = suc (size i)
   size_part (flag f) = 0
@@ -39,7 +39,7 @@ unfoldable mutual
 
 unfoldable pub size_of : Member → ℕ
 size_of member.Blank = 0
-size_of (member.Known f w) = 0
+size_of (member.Known w) = 0
 size_of (member.Leaf f l) = 0
 size_of (member.Part f x) = suc (size (layout_of x))
 size_of (member.Maybe f x) = suc (size (layout_of x))
@@ -86,7 +86,7 @@ module _ (m : Member) where
 size_split : (m : Member) (ms : List Member) → size_of m + sizes (members_of ms) ≤ sizes (members_of (m ∷ ms))
 unfolding size size_of
 size_split member.Blank ms = omega arith
-size_split (member.Known f w) ms = omega arith
+size_split (member.Known w) ms = omega arith
 size_split (member.Leaf f l) ms = omega arith
 size_split (member.Part f x) ms = omega arith
 size_split (member.Maybe f x) ms = omega arith

@@ -6,7 +6,7 @@ ghost use Rattle.rows.specs.Row.{members_of};
 
 use primitives::{Content, Primitive, Word};
 use structures::{Row, Structure};
-use terms::{Field, KnownName};
+use terms::Field;
 
 // How many members a row has, filled up with blanks.
 pub const MEMBERS: usize = 6;
@@ -16,7 +16,7 @@ pub const MEMBERS: usize = 6;
 #[derive(Drop)]
 pub enum Member {
     Blank,
-    Known(KnownName, Word),
+    Known(Word),
     Leaf(Field, Primitive),
     Part(Field, Structure),
     Maybe(Field, Structure),
@@ -50,7 +50,7 @@ fn signed_part() -> [Member; MEMBERS]
     ensures { row_of Row.SignedPart ≡ members_of result }
 {
     [
-        Member::Known(KnownName::SignatureVersion, Word::Version),
+        Member::Known(Word::Version),
         Member::Part(Field::Seal, Structure::Seal),
         Member::Leaf(Field::SigningTime, Primitive::Time),
         Member::Leaf(Field::OriginalDigest, Primitive::Bits),
@@ -92,8 +92,8 @@ fn header() -> [Member; MEMBERS]
     ensures { row_of Row.Header ≡ members_of result }
 {
     [
-        Member::Known(KnownName::HeaderName, Word::HeaderName),
-        Member::Known(KnownName::SealVersion, Word::Version),
+        Member::Known(Word::HeaderName),
+        Member::Known(Word::Version),
         Member::Leaf(Field::Vendor, Primitive::AnyIa5),
         Member::Blank,
         Member::Blank,

@@ -1,4 +1,4 @@
--- A run: accepted records end to end, none or many (01, "Refusal numbers" and "Handing out"; RULES 6). Assumes nothing.
+-- A run: accepted records end to end, none or many (01, "Refusal numbers" and "Handing out"). Assumes nothing.
 use Rattle.std.specs.Prelude.{ℕ, suc, zero, ◌+◌, ◌-◌, ◌^◌, List, [], ◌∷◌, length, drop, pos, ltb}
 use Rattle.std.proofs.Math.Option.{Option, none, some}
 use Rattle.terms.specs.Numbers.{done, run_end, largest_record}

@@ -36,7 +36,7 @@ abbrev mutual
   rows_in (m ▸ r) d = member_rows m d ++ rows_in r d
 
   member_rows : Member → ℕ → List Row
-  member_rows (known f w) d = []
+  member_rows (known w) d = []
   member_rows (one f i) d = item_rows i f d
   member_rows (maybe f i) d = item_rows i f d
   member_rows (flag f) d = row_for f d Critical ∷ []

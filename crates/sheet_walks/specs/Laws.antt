@@ -29,7 +29,6 @@ use Rattle.layouts.specs.Laws.Scan.{whole, passed}
 use Rattle.layouts.specs.Laws.SheetScan.{sheet-accept}
 use Rattle.primitives.specs.declared.Content.{Content}
 use Rattle.primitives.specs.declared.Primitive.{Primitive}
-use Rattle.terms.specs.declared.KnownName.{KnownName}
 use Rattle.primitives.specs.declared.Word.{Word}
 use Rattle.primitives.specs.Primitive.{leaf_of, says}
 use Rattle.counts.specs.Laws.{fits_count}
@@ -90,9 +89,9 @@ module _ (m : Member) (s : List ℕ) (p e : ℕ) where
   unfolding member_walk
   member_blank i = rw i refl
 
-  pub member_known : (f : KnownName) (w : Word) → m ≡ member.Known f w → ReadsPart (Next p)
+  pub member_known : (w : Word) → m ≡ member.Known w → ReadsPart (Next p)
   unfolding member_walk sheet_scan
-  member_known f w i = rw i refl
+  member_known w i = rw i refl
 
   pub member_leaf : (f : Field) (c : Primitive) (h : Seen) (y : Step) → m ≡ member.Leaf f c → h ≡ leaf_section_at (leaf_of c) s p e → y ≡ past_of h → ReadsPart y
   unfolding member_walk sheet_scan
@@ -144,7 +143,7 @@ module _ (m : Member) (s : List ℕ) (p e : ℕ) where
 row_split : (m : Member) (ms : List Member) (s : List ℕ) (p e : ℕ) → sheet_scans (members_of (m ∷ ms)) s p e ≡ (then_step (member_walk m s p e) λ q. sheet_scans (members_of ms) s q e)
 unfolding member_walk sheet_scan
 row_split member.Blank ms s p e = refl
-row_split (member.Known f w) ms s p e = refl
+row_split (member.Known w) ms s p e = refl
 row_split (member.Leaf f l) ms s p e = refl
 row_split (member.Part f x) ms s p e = refl
 row_split (member.Maybe f x) ms s p e = refl

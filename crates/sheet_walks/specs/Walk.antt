@@ -14,7 +14,7 @@ use Rattle.rows.specs.Row.{choice_of}
 -- a member of a row
 unfoldable pub member_walk : Member → List ℕ → ℕ → ℕ → Step
 member_walk member.Blank s p e = Next p
-member_walk (member.Known f w) s p e = sheet_scan_part (known f (known_of w)) s p e
+member_walk (member.Known w) s p e = sheet_scan_part (known (known_of w)) s p e
 member_walk (member.Leaf f l) s p e = sheet_scan (leaf (leaf_of l)) s p e
 member_walk (member.Part f x) s p e = sheet_scan (layout_of x) s p e
 member_walk (member.Maybe f x) s p e = sheet_scan_part (maybe f (layout_of x)) s p e

@@ -65,7 +65,7 @@ fn member(s: &[u8], m: Member, at: usize, end: usize) -> Step
 {
     match m {
         Member::Blank => Step::Next(at),
-        Member::Known(_, _) => Step::Next(at),
+        Member::Known(_) => Step::Next(at),
         Member::Leaf(_, primitive) => edges::past(sections::leaf(s, primitive, at, end)),
         Member::Part(_, x) => item(s, x, at, end),
         Member::Maybe(_, x) => {

@@ -7,8 +7,7 @@ pub enum Language {
     Chinese,
 }
 
-// The words: the heads of the columns, what is said of a field that has no bytes of its own, what the whole is, what a text has, and what was
-// looked at.
+// The words: the heads of the columns, what is said of a field that has no bytes of its own, and what the whole is.
 #[derive(Drop)]
 pub enum Word {
     Offset,
@@ -23,6 +22,4 @@ pub enum Word {
     Yes,
     No,
     Record,
-    Characters,
-    FormAlone,
 }

@@ -181,7 +181,7 @@ module _ (from to : Side) where
     moves (m ▸ r) s p e = join (move_part m s p e) λ q. moves r s q e
 
     pub move_part : Member → List ℕ → ℕ → ℕ → Moved
-    move_part (known f k) s p e = move_known k s p e
+    move_part (known k) s p e = move_known k s p e
     move_part (one f i) s p e = move i s p e
     move_part (maybe f i) s p e = move_option to (present_at from (tag_of i) s p e) λ q. move i s q e
     move_part (flag f) s p e = move_flag s p e

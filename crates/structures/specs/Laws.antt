@@ -35,7 +35,7 @@ module _ (x : Structure) (b : Build) (t : Tag) (l : layout_of x ≡ item_of b) w
 -- the number of the first name in a layout
 first_in : Members → ℕ
 first_in end = names_count
-first_in (known f w ▸ r) = first_in r
+first_in (known w ▸ r) = first_in r
 first_in (one f i ▸ r) = code f
 first_in (maybe f i ▸ r) = code f
 first_in (flag f ▸ r) = code f

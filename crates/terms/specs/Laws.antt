@@ -2,4 +2,3 @@ pub mod Answer
 pub mod Digits
 pub mod Table
 pub mod Names
-pub mod Refusals

@@ -1,7 +1,5 @@
--- The names of a record's fields, which are the same, and of its items of one content. Assumes nothing.
+-- The names of a record's fields: which are the same. Assumes nothing.
 use Rattle.std.specs.Prelude.{ℕ, Bool, List, [], ◌∷◌, get_or, eqb}
-use Rattle.terms.specs.declared.KnownName.{KnownName}
-use Rattle.terms.specs.declared.KnownName.TheVariants.{HeaderName, SealVersion, SignatureVersion}
 use Rattle.terms.specs.declared.Field.{Field}
 use Rattle.terms.specs.declared.Field.TheVariants.{SealInformation, Header, Vendor, SealId, Property, SealType, SealName, ListKind, CertificateList, ListedCertificate, ListedEntry, ListedType, ListedDigest, Created, Start, End, Picture, PictureType, PictureData, Width, Height, SealCustomData, SealCustomItem, SealCustomId, SealCustomCritical, SealCustomValue, MakerCertificate, SealAlgorithm, SealSignedValue, SignedPart, Seal, SigningTime, OriginalDigest, PropertyText, SignedCustomData, SignedCustomItem, SignedCustomId, SignedCustomCritical, SignedCustomValue, SignerCertificate, SignatureAlgorithm, SignatureValue, Stamp}
 
@@ -65,12 +63,3 @@ name_of i = get_or names i SealInformation
 
 abbrev pub same_name : Field → Field → Bool
 same_name f g = eqb (code f) (code g)
-
--- the items of one content, by their numbers
-abbrev pub known_code : KnownName → ℕ
-known_code HeaderName = 0
-known_code SealVersion = 1
-known_code SignatureVersion = 2
-
-abbrev pub known_name : ℕ → KnownName
-known_name i = get_or (HeaderName ∷ SealVersion ∷ SignatureVersion ∷ []) i HeaderName

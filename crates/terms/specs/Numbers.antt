@@ -1,5 +1,5 @@
--- Document 01's numbers by name (RULES 3.1), and the bounds of records and lists (RULES 2.1, 1.2). Assumes nothing.
-use Rattle.std.specs.Prelude.{ℕ, Bool, false, ◌||◌, List, [], ◌∷◌, ◌++◌, eqb}
+-- Document 01's numbers by name, and the bounds of records and lists. Assumes nothing.
+use Rattle.std.specs.Prelude.{ℕ}
 
 -- ---- refusals (01, "Refusal numbers")
 
@@ -62,26 +62,6 @@ bad_sheet = 19
 
 abbrev pub no_room : ℕ
 no_room = 20
-
--- ---- which of them can arise where (03, 18)
-
-abbrev pub one_of : List ℕ → ℕ → Bool
-one_of [] n = false
-one_of (k ∷ ks) n = eqb n k || one_of ks n
-
--- of a record: 1 to 17
-abbrev pub record_numbers : List ℕ
-record_numbers =
-    item_missing ∷ other_tag ∷ bad_length ∷ past_end ∷ left_over ∷ bad_integer ∷ not_allowed ∷ not_es ∷ bad_character ∷ bad_time ∷ bad_identifier ∷ bad_bits ∷ bad_boolean ∷ no_bytes
-    ∷ no_item ∷ too_many_items ∷ too_large ∷ []
-
--- of a value of bytes, and of an integer that is a number
-abbrev pub value_numbers : List ℕ
-value_numbers = not_allowed ∷ bad_character ∷ bad_time ∷ bad_identifier ∷ no_bytes ∷ []
-
--- "In a sheet the numbers that can arise are 7, 9, 10, 11, 14, 15, 16 and 19"
-abbrev pub sheet_numbers : List ℕ
-sheet_numbers = value_numbers ++ (no_item ∷ too_many_items ∷ bad_sheet ∷ [])
 
 -- ---- verdicts (01, "Findings and verdicts")
 

@@ -50,14 +50,6 @@ pub enum Field {
 // How many names there are.
 pub const NAMES: usize = 43;
 
-// The items of one content, by name: they are no fields, and a refusal may be about them.
-#[derive(Drop)]
-pub enum KnownName {
-    HeaderName,
-    SealVersion,
-    SignatureVersion,
-}
-
 // The numbers of refusals, by the names that `Numbers` has for them; every answer that cites one is proved to be its number.
 pub const ITEM_MISSING: u8 = 1;
 

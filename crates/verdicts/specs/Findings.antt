@@ -1,4 +1,4 @@
--- The findings, and what they say at a moment (01, "Findings and verdicts"; RULES 8). Assumes nothing.
+-- The findings, and what they say at a moment (01, "Findings and verdicts"). Assumes nothing.
 use Rattle.std.specs.Prelude.{ℕ, Bool, false, not, ◌&&◌, List, [], ◌∷◌, ◌++◌}
 use Rattle.terms.specs.Answer.{every}
 use Rattle.contents.specs.Time.{Moment, not_later, moment_at, is_real}

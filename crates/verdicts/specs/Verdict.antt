@@ -1,4 +1,4 @@
--- The two verdicts: tables of numbered steps, and the first that holds (000, 6.3 and 7.3; RULES 9). Assumes nothing.
+-- The two verdicts: tables of numbered steps, and the first that holds (000, 6.3 and 7.3). Assumes nothing.
 use Rattle.std.specs.Prelude.{ℕ, Bool, true, false, not, ◌&&◌, List, [], ◌∷◌}
 use Rattle.std.proofs.Math.Option.{Option, none, some}
 use Rattle.terms.specs.declared.Field.{Field}

@@ -25,12 +25,10 @@ use Rattle.contents.specs.Leaves.{Leaf, only}
 use Rattle.layouts.specs.Layout.{Item, leaf, list, Members, Member as Part, tag_of}
 use Rattle.layouts.specs.Scan.{then_seen, then_step, then_judge, leaf_at, scan_many, scan, record_scan}
 use Rattle.layouts.specs.Whole.{sequence}
-use Rattle.layouts.specs.Places.{wanted}
 use Rattle.layouts.specs.Laws.Scan.{passed}
 use Rattle.primitives.specs.declared.Content.{Content}
 use Rattle.primitives.specs.declared.Primitive.{Primitive}
 use Rattle.primitives.specs.declared.Primitive.TheVariants as primitive
-use Rattle.terms.specs.declared.KnownName.{KnownName}
 use Rattle.primitives.specs.declared.Word.{Word}
 use Rattle.primitives.specs.Primitive.{leaf_of, known_of, says}
 use Rattle.structures.specs.declared.Row.{Row}
@@ -46,7 +44,7 @@ use Rattle.layouts.specs.declared.Tally.{Tally}
 use Rattle.layouts.specs.declared.Tally.TheVariants.{Items, Refused as Uncounted}
 use Rattle.layouts.specs.Marks.{noted, blamed, after_seen, after_step, after_tally, then_tally, tally, many_marks, marks, record_marks}
 use Rattle.list_heads.specs.Head.{list_head_at}
-use Rattle.entries.specs.Entry.{leaf_walk, known_walk}
+use Rattle.entries.specs.Entry.{leaf_walk}
 use Rattle.entries.specs.Laws.{both, answers, tables}
 use Rattle.walks.specs.Walk.{item_walk, row_walk, member_walk, list_walk, record_walk}
 
@@ -187,9 +185,9 @@ module _ (m : Member) (n : ℕ) (s : List ℕ) (p e : ℕ) (d : List ℕ) where
   unfolding member_walk
   member_blank i = rw i refl
 
-  pub member_known : (f : KnownName) (w : Word) (h : Seen) (y : Step) (d' : List ℕ) → m ≡ member.Known f w → (h, d') ≡ known_walk (known_of w) f s p e d → y ≡ past_of h → ReadsPart y d'
-  unfolding member_walk known_walk scan marks
-  member_known f w h y d' i j g = rw i (both (g ∙ passed h ∙ ap (λ (x : Seen). then_seen x λ a z. Next z) (answers j)) (tables j))
+  pub member_known : (w : Word) (h : Seen) (y : Step) → m ≡ member.Known w → h ≡ leaf_at (only (known_of w)) s p e → y ≡ past_of h → ReadsPart y d
+  unfolding member_walk scan
+  member_known w h y i j g = rw i (both (g ∙ passed h ∙ ap (λ (x : Seen). then_seen x λ a z. Next z) j) refl)
 
   pub member_leaf : (f : Field) (l : Primitive) (h : Seen) (y : Step) (d' : List ℕ) → m ≡ member.Leaf f l → (h, d') ≡ leaf_walk (leaf_of l) f n s p e d → y ≡ past_of h → ReadsPart y d'
   unfolding member_walk
@@ -240,7 +238,7 @@ onward w k = (then_step w.0 λ q. (k q w.1).0, after_step w.0 w.1 λ q. (k q w.1
 row_split : (m : Member) (ms : List Member) (n : ℕ) (s : List ℕ) (p e : ℕ) (d : List ℕ) → row_walk (members_of (m ∷ ms)) n s p e d ≡ (onward (member_walk m n s p e d) λ q t. row_walk (members_of ms) n s q e t)
 unfolding row_walk member_walk item_walk scan marks
 row_split member.Blank ms n s p e d = refl
-row_split (member.Known f w) ms n s p e d = refl
+row_split (member.Known w) ms n s p e d = refl
 row_split (member.Leaf f l) ms n s p e d = refl
 row_split (member.Part f x) ms n s p e d = refl
 row_split (member.Maybe f x) ms n s p e d = refl
@@ -306,9 +304,9 @@ module _ (most : ℕ) (r : Members) (s : List ℕ) (p e : ℕ) (d : List ℕ) (h
   unfolding record_walk record_scan record_marks
   record_refused n q y b g = both (rw (← j, b) (g ∙ ap past_of b)) (rw (← j, b))
 
-  pub record_row : (a z k : ℕ) (y : Step) (d' : List ℕ) → h ≡ At a z → k ≡ wanted d → (y, d') ≡ row_walk r k s a z d → (y, d') ≡ record_walk most r s p e d
+  pub record_row : (a z : ℕ) (y : Step) (d' : List ℕ) → h ≡ At a z → (y, d') ≡ row_walk r 0 s a z d → (y, d') ≡ record_walk most r s p e d
   unfolding record_walk row_walk record_scan record_marks
-  record_row a z k y d' b w g = both (rw (← j, b) (answers g)) (rw (← j, b, ← w) (tables g))
+  record_row a z y d' b g = both (rw (← j, b) (answers g)) (rw (← j, b) (tables g))
 
 -- ---- what each function's answers are found by
 

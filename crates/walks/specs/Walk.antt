@@ -24,7 +24,7 @@ row_walk r k s p e d = (scans r s p e, marks_all r k s p e d)
 -- a member of a row
 unfoldable pub member_walk : Member → ℕ → List ℕ → ℕ → ℕ → List ℕ → Step × List ℕ
 member_walk member.Blank k s p e d = (Next p, d)
-member_walk (member.Known f w) k s p e d = (scan_part (known f (known_of w)) s p e, marks_part (known f (known_of w)) k s p e d)
+member_walk (member.Known w) k s p e d = (scan_part (known (known_of w)) s p e, d)
 member_walk (member.Leaf f l) k s p e d = item_walk (leaf (leaf_of l)) f k s p e d
 member_walk (member.Part f x) k s p e d = item_walk (layout_of x) f k s p e d
 member_walk (member.Maybe f x) k s p e d = (scan_part (maybe f (layout_of x)) s p e, marks_part (maybe f (layout_of x)) k s p e d)

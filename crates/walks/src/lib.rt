@@ -118,9 +118,7 @@ fn member(s: &[u8], m: Member, index: usize, at: usize, end: usize, places: &mut
 {
     match m {
         Member::Blank => return Step::Next(at),
-        Member::Known(name, w) => {
-            return edges::past(entries::known(s, w, name, at, end, places));
-        }
+        Member::Known(w) => return edges::past(leaves::known(s, w, at, end)),
         Member::Leaf(name, primitive) => {
             return edges::past(entries::leaf(s, primitive, name, index, at, end, places));
         }
@@ -195,7 +193,7 @@ fn list(
 }
 
 // A record of at most `most` bytes at a position, whatever follows it: where it ends, or the first refusal in it. The fields that it
-// passes are noted, also those before a refusal: what stands in no list by the index that is wanted.
+// passes are noted, also those before a refusal.
 pub fn record(s: &[u8], x: Row, most: usize, at: usize, end: usize, places: &mut [usize]) -> Step
     ensures { (result, places.new) ≡ record_walk most (row_of x) s.now at end places.old }
 {
@@ -203,6 +201,5 @@ pub fn record(s: &[u8], x: Row, most: usize, at: usize, end: usize, places: &mut
     let Seen::Item { start: a, end: z } = h else {
         return edges::past(h);
     };
-    let index = places::wanted_index(places);
-    row(s, x, index, a, z, places)
+    row(s, x, 0, a, z, places)
 }

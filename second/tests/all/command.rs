@@ -77,50 +77,6 @@ fn one_sheet_is_filled_and_one_record_written() {
 }
 
 #[test]
-fn a_screen_has_a_language_and_a_width() {
-    let narrow = run(&["screen", "en", "samples/s.der"], &[]);
-    let same = run(&["screen", "en", "80", "samples/s.der"], &[]);
-    assert_eq!(narrow.status.code(), Some(0));
-    assert_eq!(narrow.stdout, same.stdout);
-    let hostile = "samples/hostile-strings.der";
-    let full = run(&["screen", "zh", "80", "full", hostile], &[]);
-    assert!(String::from_utf8_lossy(&full.stdout).contains("\n| \""));
-    for width in ["79", "0", "-80", "x", ""] {
-        let said = format!("second: {width}: no number from 80 on\n");
-        expect(&["screen", "en", width, hostile], &[], 2, "", &said);
-    }
-    let said = "second: fr: no language; there are en and zh\n";
-    expect(&["screen", "fr", hostile], &[], 2, "", said);
-}
-
-#[test]
-fn labels_and_words_are_printed() {
-    for (word, first, last, count) in [
-        (
-            "labels",
-            "SESeal.eSealInfo|seal information|印章信息",
-            "SES_Signature.timeStamp|time stamp|对签名值的时间戳",
-            46,
-        ),
-        (
-            "words",
-            "0|valid|有效",
-            "34|the signer is not in force at the time stamp|按时间戳中的时间，签章者证书不在有效期内，或者已被撤销",
-            35,
-        ),
-    ] {
-        let output = run(&[word], &[]);
-        let printed = String::from_utf8_lossy(&output.stdout);
-        let lines: Vec<&str> = printed.lines().collect();
-        assert_eq!(output.status.code(), Some(0));
-        assert_eq!(lines.first(), Some(&first));
-        assert_eq!(lines.last(), Some(&last));
-        assert_eq!(lines.len(), count);
-        assert!(lines.iter().all(|line| !line.contains('/') && line.split('|').count() == 3));
-    }
-}
-
-#[test]
 fn help_is_printed() {
     for word in ["-h", "--help"] {
         let output = run(&[word], &[]);

@@ -67,17 +67,6 @@ fn an_empty_custom_list_is_not_an_absent_one() {
 }
 
 #[test]
-fn an_index_says_nothing_outside_lists() {
-    for index in [0, 1, 7, u64::MAX] {
-        assert_eq!(seal_field(s_seal(), 1, index), "PART 15 0", "{index}");
-        assert_eq!(seal_field(s_seal(), 6, index), "VALUE 1", "{index}");
-        assert_eq!(seal_field(s_seal(), 24, index), "PART 2 96", "{index}");
-    }
-    assert_eq!(seal_field(s_seal(), 7, 0), "PART 32 1");
-    assert_eq!(seal_field(s_seal(), 7, 1), "ABSENT");
-}
-
-#[test]
 fn a_list_of_kind_1_with_digests_is_refused() {
     let mut record = s_seal();
     record.splice(30..33, hex("30 05 13 00 04 01 AA"));

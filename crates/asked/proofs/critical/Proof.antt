@@ -1,28 +1,21 @@
 -- `asked::critical`: by the kind.
-use Rattle.asked.specs.Laws.{by_kind, by_none}
+use Rattle.asked.specs.Laws.{critical-kind-seal, critical-kind-signature}
 use borrow.Author.Rules.{rules}
 use Rattle.asked.proofs.critical.Statement.{statement}
 use Rattle.asked.proofs.critical.Tie as tie
 
-kind-of-requires : tie.Need-kind-of-requires
-kind-of-requires c κs = search rules
-
-enum-known-of : tie.Need-enum-known-of
-enum-known-of c = search rules
-
-critical-in-requires : tie.Need-critical-in-requires
-critical-in-requires c κs = search rules
-
-enum_told : tie.Need-enum-told
-enum_told c = search rules
+seal-critical-requires : tie.Need-seal-critical-requires
+seal-critical-requires c κs = search rules
 
 returns : tie.Need-returns
-returns c = search (rules, by_kind)
+returns c = search (rules, critical-kind-seal)
+
+signature-critical-requires : tie.Need-signature-critical-requires
+signature-critical-requires c κs = search rules
 
 returns-2 : tie.Need-returns-2
-returns-2 c = search (rules, by_none)
+returns-2 c = search (rules, critical-kind-signature)
 
 pub critical-spec : {M : Type 1} → statement M
 critical-spec =
-    tie.close
-    (tie.spec kind-of-requires enum-known-of critical-in-requires enum_told returns returns-2)
+    tie.close (tie.spec seal-critical-requires returns signature-critical-requires returns-2)

@@ -1,28 +1,20 @@
 -- `asked::items`: by the kind.
-use Rattle.asked.specs.Laws.{by_kind, by_none}
+use Rattle.asked.specs.Laws.{count-kind-seal, count-kind-signature}
 use borrow.Author.Rules.{rules}
 use Rattle.asked.proofs.items.Statement.{statement}
 use Rattle.asked.proofs.items.Tie as tie
 
-kind-of-requires : tie.Need-kind-of-requires
-kind-of-requires c κs = search rules
-
-enum-known-of : tie.Need-enum-known-of
-enum-known-of c = search rules
-
-items-in-requires : tie.Need-items-in-requires
-items-in-requires c κs = search rules
-
-enum_told : tie.Need-enum-told
-enum_told c = search rules
+seal-items-requires : tie.Need-seal-items-requires
+seal-items-requires c κs = search rules
 
 returns : tie.Need-returns
-returns c = search (rules, by_kind)
+returns c = search (rules, count-kind-seal)
+
+signature-items-requires : tie.Need-signature-items-requires
+signature-items-requires c κs = search rules
 
 returns-2 : tie.Need-returns-2
-returns-2 c = search (rules, by_none)
+returns-2 c = search (rules, count-kind-signature)
 
 pub items-spec : {M : Type 1} → statement M
-items-spec =
-    tie.close
-    (tie.spec kind-of-requires enum-known-of items-in-requires enum_told returns returns-2)
+items-spec = tie.close (tie.spec seal-items-requires returns signature-items-requires returns-2)

@@ -7,9 +7,6 @@ use Rattle.asked.proofs.seal_critical.Tie as tie
 seal-custom-critical-requires : tie.Need-seal-custom-critical-requires
 seal-custom-critical-requires c κs = search rules
 
-no-critical-requires : tie.Need-no-critical-requires
-no-critical-requires c κs = search rules
-
 returns : tie.Need-returns
 returns c = search (rules, critical-seal)
 
@@ -17,5 +14,4 @@ returns-2 : tie.Need-returns-2
 returns-2 c = search (rules, critical_no_seal)
 
 pub seal-critical-spec : {M : Type 1} → statement M
-seal-critical-spec =
-    tie.close (tie.spec seal-custom-critical-requires no-critical-requires returns returns-2)
+seal-critical-spec = tie.close (tie.spec seal-custom-critical-requires returns returns-2)

@@ -10,9 +10,6 @@ listed-count-requires c κs = search rules
 seal-custom-count-requires : tie.Need-seal-custom-count-requires
 seal-custom-count-requires c κs = search rules
 
-no-items-requires : tie.Need-no-items-requires
-no-items-requires c κs = search rules
-
 returns : tie.Need-returns
 returns c = search (rules, count_seal_list)
 
@@ -25,10 +22,4 @@ returns-3 c = search (rules, count_no_seal)
 pub seal-items-spec : {M : Type 1} → statement M
 seal-items-spec =
     tie.close
-    (tie.spec
-    listed-count-requires
-    seal-custom-count-requires
-    no-items-requires
-    returns
-    returns-2
-    returns-3)
+    (tie.spec listed-count-requires seal-custom-count-requires returns returns-2 returns-3)

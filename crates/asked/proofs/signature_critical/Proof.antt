@@ -10,9 +10,6 @@ seal-custom-critical-requires c κs = search rules
 signed-custom-critical-requires : tie.Need-signed-custom-critical-requires
 signed-custom-critical-requires c κs = search rules
 
-no-critical-requires : tie.Need-no-critical-requires
-no-critical-requires c κs = search rules
-
 returns : tie.Need-returns
 returns c = search (rules, critical_in-seal)
 
@@ -28,7 +25,6 @@ signature-critical-spec =
     (tie.spec
     seal-custom-critical-requires
     signed-custom-critical-requires
-    no-critical-requires
     returns
     returns-2
     returns-3)

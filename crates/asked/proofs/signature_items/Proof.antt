@@ -13,9 +13,6 @@ seal-custom-count-requires c κs = search rules
 signed-custom-count-requires : tie.Need-signed-custom-count-requires
 signed-custom-count-requires c κs = search rules
 
-no-items-requires : tie.Need-no-items-requires
-no-items-requires c κs = search rules
-
 returns : tie.Need-returns
 returns c = search (rules, count_list)
 
@@ -35,7 +32,6 @@ signature-items-spec =
     listed-count-requires
     seal-custom-count-requires
     signed-custom-count-requires
-    no-items-requires
     returns
     returns-2
     returns-3

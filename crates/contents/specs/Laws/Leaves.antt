@@ -3,12 +3,12 @@ use Rattle.std.specs.Prelude.{◌≡◌, refl, ℕ, ◌+◌, ◌≤◌, Bool, tr
 use Rattle.std.proofs.Common.{arith}
 use Rattle.std.proofs.Math.Option.{some}
 use Rattle.terms.specs.Answer.{Res, good}
-use Rattle.terms.specs.Laws.Answer.{never, clash, and_l}
+use Rattle.terms.specs.Laws.Answer.{never, clash, and_l, and_r}
 use Rattle.contents.specs.Content.{Check, fine, wrong, ask, passes, judge}
-use Rattle.contents.specs.Integer.{shortest, widest, section_bytes, well_formed}
+use Rattle.contents.specs.Integer.{shortest, well_formed, widest}
 use Rattle.contents.specs.Rules.{integer_rule}
 use Rattle.contents.specs.Leaves.{Holding, bytes, number, rule_of, section_of, value_in}
-use Rattle.contents.specs.Laws.Integer.{stretch-there, stretch_back, stretch_near, well_formed_fits}
+use Rattle.contents.specs.Laws.Integer.{stretch-there, stretch_back, stretch_near}
 
 -- ---- what a rule went through
 
@@ -32,16 +32,16 @@ passed (wrong n x) h = absurd h
 pub value_there : (h : Holding) (v : List ℕ) → rule_of h v ≡ fine → value_in h (section_of h v) ≡ some v
 unfolding integer_rule well_formed
 value_there (bytes rule) v ok = refl
-value_there (number allowed) v ok = by_ask _ _ _ ok λ t e. stretch-there section_bytes v (and_l (shortest v) (leb (length v) widest) t) (well_formed_fits v t)
+value_there (number allowed) v ok = by_ask _ _ _ ok λ t e. stretch-there v (and_l (shortest v) (leb (length v) widest) t) (and_r (shortest v) (leb (length v) widest) t)
 
 pub value_back : (h : Holding) (x v : List ℕ) → value_in h x ≡ some v → section_of h v ≡ x
 value_back (bytes rule) x v e = cc
-value_back (number allowed) x v e = stretch_back section_bytes x v e
+value_back (number allowed) x v e = stretch_back x v e
 
 -- a section is not much longer than its value
-pub section_near : (h : Holding) (v : List ℕ) → length (section_of h v) ≤ section_bytes + length v
+pub section_near : (h : Holding) (v : List ℕ) → length (section_of h v) ≤ 8 + length v
 section_near (bytes rule) v = omega arith
-section_near (number allowed) v = stretch_near section_bytes v
+section_near (number allowed) v = stretch_near v
 
 -- what a primitive item holds is bytes, and no number
 abbrev pub IsBytes : Holding → Type 0

@@ -1,6 +1,6 @@
 -- `known_pieces::known_out`: its one content in a record.
 use borrow.Author.Rules.{rules}
-use Rattle.pieces.specs.Laws.{known_none, known-name, known_version}
+use Rattle.pieces.specs.Laws.{known_none, known_name, known_version}
 use Rattle.known_pieces.proofs.known_out.Statement.{statement}
 use Rattle.known_pieces.proofs.known_out.Tie as tie
 
@@ -32,16 +32,16 @@ same_length : tie.Need-same-length
 same_length c = search rules
 
 returns : tie.Need-returns
-returns c = search (rules, known-name, known_version)
+returns c = search (rules, known_name, known_version)
 
 same-length-2 : tie.Need-same-length-2
 same-length-2 c = search rules
 
 returns-2 : tie.Need-returns-2
-returns-2 c = search (rules, known-name, known_version)
+returns-2 c = search (rules, known_name, known_version)
 
 returns-3 : tie.Need-returns-3
-returns-3 c = search (rules, known_none, known-name, known_version)
+returns-3 c = search (rules, known_none, known_name, known_version)
 
 pub known-out-spec : {M : Type 1} → statement M
 known-out-spec =

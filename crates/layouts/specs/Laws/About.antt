@@ -1,18 +1,17 @@
 -- A refused record notes behind the table of places what it is refused about: `marks` agrees with `about`, for every layout. Assumes nothing.
-use Rattle.std.specs.Prelude.{◌≡◌, Bool, true, false, not, length, get_or, set, replicate, T, eqb, ltb}
+use Rattle.std.specs.Prelude.{◌≡◌, Bool, true, false, not, length, get_or, set, replicate, T, eqb}
 use Rattle.std.proofs.Math.Path.{refl}
-use Rattle.std.proofs.Common.{sym, ◌∙◌, arith, length-set, get_or-set_same, lt-ltb, le-ltb, ne_eqb}
+use Rattle.std.proofs.Common.{sym, ◌∙◌, arith, length-set, get_or-set_same, lt-ltb, ne_eqb}
 use Prim.Native.Nat.{ℕ, suc, zero, ◌+◌, ◌-◌, ◌≤◌, ◌<◌}
 use mathlib.Core.List.{List, [], ◌∷◌, ◌++◌}
 use Rattle.std.proofs.lemmas.List.{length-replicate}
 use Rattle.std.proofs.Math.Seq.{take-length, slice}
 use Rattle.terms.specs.declared.Field.{Field}
-use Rattle.terms.specs.declared.KnownName.{KnownName}
-use Rattle.terms.specs.Names.{code, names_count, name_of, known_code, known_name}
+use Rattle.terms.specs.Names.{code, name_of}
 use Rattle.terms.specs.Numbers.{left_over, too_many_items}
 use Rattle.terms.specs.Answer.{Res, good, fault, Got, got, pick, bind, unread, need, enough, finish}
 use Rattle.terms.specs.Laws.Answer.{never, test, by_bind, is_true, is_false}
-use Rattle.terms.specs.Laws.Names.{code_below, name_code, known_name-code}
+use Rattle.terms.specs.Laws.Names.{name_code}
 use Rattle.heads.specs.Head.{forms, Cut, outermost}
 use Rattle.heads.specs.Scan.{seen, head_at, outermost_at}
 use Rattle.heads.specs.Laws.Head.{outermost_back}
@@ -24,13 +23,13 @@ use Rattle.layouts.specs.Layout.{Item, leaf, node, list, wrap, Members, end, ◌
 use Rattle.layouts.specs.Reading.{next, read_leaf, begins, many, read_option, read_flag, read_either, read, reads, read_part}
 use Rattle.layouts.specs.Whole.{sequence, record_at, accept}
 use Rattle.layouts.specs.Scan.{scan, whole_scan}
-use Rattle.layouts.specs.Places.{table_size, wanted}
-use Rattle.layouts.specs.Marks.{noted, unblamed, blamed_by, blamed, blamed_known, blaming, after_seen, after_step, after_tally, then_tally, tally, many_marks, leaf_marks, marks, marks_all, marks_part, record_marks}
+use Rattle.layouts.specs.Places.{table_size}
+use Rattle.layouts.specs.Marks.{noted, unblamed, blamed, blaming, after_seen, after_step, after_tally, then_tally, tally, many_marks, leaf_marks, marks, marks_all, marks_part, record_marks}
 use Rattle.layouts.specs.About.{about_many, about, about_all, about_part, record_about}
 use Rattle.layouts.specs.declared.Tally.{Tally}
 use Rattle.layouts.specs.declared.Tally.TheVariants.{Items, Refused as Uncounted}
 use Rattle.layouts.specs.declared.Whose.{Whose}
-use Rattle.layouts.specs.declared.Whose.TheVariants.{Nothing, Record, Field as field, Known as fixed}
+use Rattle.layouts.specs.declared.Whose.TheVariants.{Nothing, Record, Field as field}
 use Rattle.layouts.specs.Laws.Scan.{by_window, Onward, step, whole, head-parts, leaf_parts, leaf_agree, begins-agree, enough-agree, close_agree, item_on, part_on, scan-read, scans-read, part-read, whole-accept}
 use Rattle.layouts.specs.Laws.Whole.{accept-more}
 use Rattle.layouts.specs.Laws.Places.{noted-size, noted-behind}
@@ -39,7 +38,7 @@ use Rattle.layouts.specs.Laws.Places.{noted-size, noted-behind}
 
 -- whose fault it is by the number behind the table: where nothing is noted, `x`'s
 unfoldable pub whose_by : Whose → ℕ → Whose
-whose_by x n = pick (eqb n 0) x (pick (ltb (n - 1) names_count) (field (name_of (n - 1))) (fixed (known_name (n - 1 - names_count))))
+whose_by x n = pick (eqb n 0) x (field (name_of (n - 1)))
 
 abbrev pub behind_table : List ℕ → ℕ
 behind_table d = get_or d table_size 0
@@ -59,33 +58,19 @@ fresh_blames : (x : Whose) (d : List ℕ) → Fresh d → Blames x x d
 unfolding whose_by pick
 fresh_blames x d (r, c) = (r, rw c)
 
--- a number that says `v`'s is noted where nothing is; what was noted before it stays
-blamed-by : (n : ℕ) (v x y : Whose) (d : List ℕ) → whose_by x n ≡ v → Blames v y d → Blames x y (blamed_by n d)
-unfolding blamed_by unblamed whose_by pick
-blamed-by n v x y d h (r, c) =
+-- a name is noted where nothing is; what was noted before it stays
+blamed_blames : (f : Field) (x y : Whose) (d : List ℕ) → Blames (field f) y d → Blames x y (blamed f d)
+unfolding blamed unblamed whose_by pick
+blamed_blames f x y d (r, c) =
     test (eqb (behind_table d) 0)
     (λ t. let e = is_true (eqb (behind_table d) 0) t in
-    let q : blamed_by n d ≡ set d table_size n = rw (lt-ltb table_size (length d) r, e) in
-    rw q (rw (length-set d table_size n) r, rw (get_or-set_same d table_size n 0 r) (h ∙ (rw e at c))))
-    (λ t. let e = is_false (eqb (behind_table d) 0) t in
-    let q : blamed_by n d ≡ d = rw (lt-ltb table_size (length d) r, e) in
-    rw q (r, rw e (rw e at c)))
-
-field-noted : (f : Field) (x : Whose) → whose_by x (code f + 1) ≡ field f
-unfolding whose_by pick
-field-noted f x =
+    let q : blamed f d ≡ set d table_size (code f + 1) = rw (lt-ltb table_size (length d) r, e) in
+    let n = ne_eqb (code f + 1) 0 (λ z. omega arith) in
     let m : code f + 1 - 1 ≡ code f = omega arith in
-    rw (ne_eqb (code f + 1) 0 (λ z. omega arith), m, lt-ltb (code f) names_count (code_below f), name_code f)
-
-known_noted : (f : KnownName) (x : Whose) → whose_by x (names_count + known_code f + 1) ≡ fixed f
-unfolding whose_by pick
-known_noted f x =
-    let m : names_count + known_code f + 1 - 1 ≡ names_count + known_code f = omega arith in
-    let l : names_count + known_code f - names_count ≡ known_code f = omega arith in
-    rw (ne_eqb (names_count + known_code f + 1) 0 (λ z. omega arith), m, le-ltb (names_count + known_code f) names_count (omega arith), l, known_name-code f)
-
-blamed_blames : (f : Field) (x y : Whose) (d : List ℕ) → Blames (field f) y d → Blames x y (blamed f d)
-blamed_blames f x y d h = blamed-by (code f + 1) (field f) x y d (field-noted f x) h
+    rw q (rw (length-set d table_size (code f + 1)) r, rw (get_or-set_same d table_size (code f + 1) 0 r, n, m, name_code f) (rw e at c)))
+    (λ t. let e = is_false (eqb (behind_table d) 0) t in
+    let q : blamed f d ≡ d = rw (lt-ltb table_size (length d) r, e) in
+    rw q (r, rw e (rw e at c)))
 
 -- ---- after a reading
 
@@ -104,11 +89,6 @@ AfterTally (Uncounted c q) (fault n p) x y d = Blames x y d
 fresh_after : {A : Type 0} (r : Res A) (x : Whose) (d : List ℕ) → Fresh d → After r x x d
 fresh_after (good a) x d h = h
 fresh_after (fault n p) x d h = fresh_blames x d h
-
--- an item of one content notes its name where it is refused
-known_after : (f : KnownName) (r : Res Cut) (x : Whose) (d : List ℕ) → Fresh d → After r x (fixed f) (after_seen (seen r) (blamed_known f d) λ a z. d)
-known_after f (good c) x d o = o
-known_after f (fault n p) x d o = blamed-by (names_count + known_code f + 1) (fixed f) x (fixed f) d (known_noted f x) (fresh_blames (fixed f) d o)
 
 after_map : {A B : Type 0} (r : Res A) (k : A → B) (x y : Whose) (d : List ℕ) → After r x y d → After (bind r λ a. good (k a)) x y d
 unfolding bind
@@ -276,7 +256,7 @@ module _ (s : List ℕ) where
         rw w.0 (after_map _ _ x _ _ (all_after r k a.after e w.2 es x _ v)))
 
     part-after : (m : Member) (k p e : ℕ) → p ≤ e → e ≤ length s → (x : Whose) (d : List ℕ) → Fresh d → After (read_part m (slice p e s) p) x (about_part m x (slice p e s) p) (marks_part m k s p e d)
-    part-after (known f w) k p e pe es x d o = rw (leaf_agree s (only w) p e pe es) (after_map (read_leaf (only w) (slice p e s) p) _ x _ _ (known_after f (read_leaf (only w) (slice p e s) p) x d o))
+    part-after (known w) k p e pe es x d o = after_map (read_leaf (only w) (slice p e s) p) _ x x d (fresh_after (read_leaf (only w) (slice p e s) p) x d o)
     part-after (one f i) k p e pe es x d o = item_after i f k p e pe es x d o
     part-after (maybe f i) k p e pe es x d o =
         rw (begins-agree s (tag_of i) p e pe es) (after-pick (begins (tag_of i) (slice p e s)) _ _ x _ _ _ (after_map _ _ x _ _ (item_after i f k p e pe es x d o)) o)
@@ -307,18 +287,18 @@ module _ (most : ℕ) (r : Members) (s d : List ℕ) (o : Fresh d) where
       let w : slice 0 (length s) s ≡ s = take-length s in
       rw w (go (outermost forms most sequence s 0) refl)
     where
-      rest : (c : Cut) (y : Res (Values r)) → reads r c.content c.start ≡ y → After y Record (about_all r Record c.content c.start) (marks_all r (wanted d) s c.start (next c) d)
-          → After (bind (bind y λ v. good (got v c.rest (next c))) λ a. finish left_over a) Record (about_all r Record c.content c.start) (marks_all r (wanted d) s c.start (next c) d)
+      rest : (c : Cut) (y : Res (Values r)) → reads r c.content c.start ≡ y → After y Record (about_all r Record c.content c.start) (marks_all r 0 s c.start (next c) d)
+          → After (bind (bind y λ v. good (got v c.rest (next c))) λ a. finish left_over a) Record (about_all r Record c.content c.start) (marks_all r 0 s c.start (next c) d)
       rest c (good v) q h = rw (about-read r Record c.content c.start v q) (fresh_after (finish left_over (got v c.rest (next c))) Record _ h)
       rest c (fault n p) q h = h
 
       go : (h : Res Cut) → outermost forms most sequence s 0 ≡ h
           → After (bind (bind h λ c. bind (reads r c.content c.start) λ v. good (got v c.rest (next c))) λ a. finish left_over a) Record (unread h Record λ c. about_all r Record c.content c.start)
-          (after_seen (seen h) d λ a z. marks_all r (wanted d) s a z d)
+          (after_seen (seen h) d λ a z. marks_all r 0 s a z d)
       go (good c) q =
           let w : slice 0 (length s) s ≡ s = take-length s in
           let b = head-parts s sequence 0 (length s) (omega arith) (omega arith) c (rw w (outermost_back most sequence s 0 c q).0) in
-          rest c (reads r c.content c.start) refl (rw (← b.0) at (all_after s r (wanted d) c.start (next c) (omega arith) (omega arith) Record d o))
+          rest c (reads r c.content c.start) refl (rw (← b.0) at (all_after s r 0 c.start (next c) (omega arith) (omega arith) Record d o))
       go (fault n p) q = fresh_blames Record d o
 
   -- what it is refused about stands behind the table
@@ -348,12 +328,11 @@ accepted-about most r s v e = rw e
 
 named : (k : ℕ) → whose_by Record k ≡ Nothing → ⊥
 unfolding whose_by pick
-named k = go (eqb k 0) (ltb (k - 1) names_count)
+named k = go (eqb k 0)
   where
-    go : (b c : Bool) → pick b Record (pick c (field (name_of (k - 1))) (fixed (known_name (k - 1 - names_count)))) ≡ Nothing → ⊥
-    go true c h = never (cc)
-    go false true h = never (cc)
-    go false false h = never (cc)
+    go : (b : Bool) → pick b Record (field (name_of (k - 1))) ≡ Nothing → ⊥
+    go true h = never (cc)
+    go false h = never (cc)
 
 pub refused_about : (most : ℕ) (r : Members) (s : List ℕ) (n p : ℕ) → accept most r s ≡ fault n p → record_about most r s ≡ Nothing → ⊥
 refused_about most r s n p e q = named (behind_table (record_marks most r s 0 (length s) d)) (about-told most r s d fresh n p (whole-accept most r s ∙ rw e) ∙ q)

@@ -31,7 +31,7 @@ module _ (t : Field → Leaf → Bool) (u : Field → Bool) where
     passes_all (m ▸ r) = passes_part m && passes_all r
 
     pub passes_part : Member → Bool
-    passes_part (known f w) = true
+    passes_part (known w) = true
     passes_part (one f i) = passes i f
     passes_part (maybe f i) = passes i f
     passes_part (flag f) = t f boolean
@@ -39,8 +39,8 @@ module _ (t : Field → Leaf → Bool) (u : Field → Bool) where
 
   -- what holds of a primitive item's value that passes, and of every item with parts whose name passes, holds of each field
   module _ (P : Entry → Type 0)
-      (leaves : (f : Field) (l : Leaf) → T (t f l) → (v : List ℕ) → rule_of l.holds v ≡ fine → (k : Option ℕ) (b : ℕ) → P (entry f k b v))
-      (others : (f : Field) → T (u f) → (k : Option ℕ) (b : ℕ) (x : List ℕ) (n : ℕ) → P (list_entry f k b x n)) where
+      (leaves : (f : Field) (l : Leaf) → T (t f l) → (v : List ℕ) → rule_of l.holds v ≡ fine → (k b : ℕ) → P (entry f k b v))
+      (others : (f : Field) → T (u f) → (k b : ℕ) (x : List ℕ) (n : ℕ) → P (list_entry f k b x n)) where
     each-passes : {A : Type 0} (Q : A → Type 0) (e : A → List ℕ) (f : ℕ → A → ℕ → List Entry) → ((k : ℕ) (a : A) → Q a → (b : ℕ) → All P (f k a b))
         → (k : ℕ) (xs : List A) → All Q xs → (b : ℕ) → All P (each_fields f e k xs b)
     unfolding each_fields
@@ -58,7 +58,7 @@ module _ (t : Field → Leaf → Bool) (u : Field → Bool) where
     either-passes d Q R f g h k (inl a) q b = h a q.1 b
     either-passes d Q R f g h k (inr a) q b = k a q.1 b
 
-    flag_passes : (f : Field) → T (t f boolean) → (k : Option ℕ) (v : Bool) (b : ℕ) → All P (flag_fields f k v b)
+    flag_passes : (f : Field) → T (t f boolean) → (k : ℕ) (v : Bool) (b : ℕ) → All P (flag_fields f k v b)
     unfolding flag_fields boolean_rule ask same
     flag_passes f h k true b = (leaves f boolean h yes_byte refl k (start_of boolean yes_byte b), tt)
     flag_passes f h k false b = tt
@@ -66,22 +66,22 @@ module _ (t : Field → Leaf → Bool) (u : Field → Bool) where
     mutual
       unfolding passes item_fields
 
-      item_passes : (i : Item) (f : Field) → T (passes i f) → (k : Option ℕ) (v : Value i) → Ok i v → (b : ℕ) → All P (item_fields i f k v b)
+      item_passes : (i : Item) (f : Field) → T (passes i f) → (k : ℕ) (v : Value i) → Ok i v → (b : ℕ) → All P (item_fields i f k v b)
       item_passes (leaf l) f h k v o b = (leaves f l h v o k (start_of l v b), tt)
       item_passes (node τ r) f h k v o b = (others f (and_l (u f) _ h) k b _ 0, run_passes r (and_r (u f) _ h) k v o (b + before (length (encodes r v))))
       item_passes (list τ e n g i) f h k vs o b =
-          all_append P (each_fields (λ j v p. item_fields i g (some j) v p) (λ v. encode i v) 0 vs (b + before (length (each (λ v. encode i v) vs)))) _
-          (each-passes (λ v. Ok i v) (λ v. encode i v) (λ j v p. item_fields i g (some j) v p) (λ j v q p. item_passes i g (and_r (u f) _ h) (some j) v q p) 0 vs o.2 _)
+          all_append P (each_fields (λ j v p. item_fields i g j v p) (λ v. encode i v) 0 vs (b + before (length (each (λ v. encode i v) vs)))) _
+          (each-passes (λ v. Ok i v) (λ v. encode i v) (λ j v p. item_fields i g j v p) (λ j v q p. item_passes i g (and_r (u f) _ h) j v q p) 0 vs o.2 _)
           (others f (and_l (u f) _ h) k b _ (length vs), tt)
       item_passes (wrap τ i) f h k v o b = item_passes i f h k v o (b + before (length (encode i v)))
 
-      pub run_passes : (r : Members) → T (passes_all r) → (k : Option ℕ) (v : Values r) → Oks r v → (b : ℕ) → All P (run_fields r k v b)
+      pub run_passes : (r : Members) → T (passes_all r) → (k : ℕ) (v : Values r) → Oks r v → (b : ℕ) → All P (run_fields r k v b)
       run_passes end h k v o b = tt
       run_passes (m ▸ r) h k v o b =
           all_append P (part_fields m k v.0 b) _ (part-passes m (and_l (passes_part m) _ h) k v.0 o.0 b) (run_passes r (and_r (passes_part m) _ h) k v.1 o.1 (b + length (encode_part m v.0)))
 
-      pub part-passes : (m : Member) → T (passes_part m) → (k : Option ℕ) (v : Part m) → OkPart m v → (b : ℕ) → All P (part_fields m k v b)
-      part-passes (known f w) h k v o b = tt
+      pub part-passes : (m : Member) → T (passes_part m) → (k : ℕ) (v : Part m) → OkPart m v → (b : ℕ) → All P (part_fields m k v b)
+      part-passes (known w) h k v o b = tt
       part-passes (one f i) h k v o b = item_passes i f h k v o b
       part-passes (maybe f i) h k v o b = option-passes (λ x. Ok i x) (λ x p. item_fields i f k x p) (λ x q p. item_passes i f h k x q p) v o b
       part-passes (flag f) h k v o b = flag_passes f h k v b
@@ -95,4 +95,4 @@ module _ (t : Field → Leaf → Bool) (u : Field → Bool) where
     -- the fields of a record
     pub fields_pass : (r : Members) → T (passes_all r) → (v : Values r) → Oks r v → All P (fields r v)
     unfolding fields
-    fields_pass r h v o = run_passes r h none v o (before (length (encodes r v)))
+    fields_pass r h v o = run_passes r h 0 v o (before (length (encodes r v)))

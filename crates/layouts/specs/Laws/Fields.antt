@@ -47,7 +47,7 @@ past s p x y z e =
     (q, q ∙ sym (append_assoc p x (y ++ z)), length-append p x)
 
 -- a primitive item's value
-pub leaf_stands : (s p z : List ℕ) (f : Field) (k : Option ℕ) (l : Leaf) (v : List ℕ) → s ≡ p ++ (encode_leaf l v ++ z) → Stands s (entry f k (start_of l v (length p)) v)
+pub leaf_stands : (s p z : List ℕ) (f : Field) (k : ℕ) (l : Leaf) (v : List ℕ) → s ≡ p ++ (encode_leaf l v ++ z) → Stands s (entry f k (start_of l v (length p)) v)
 unfolding encode_leaf
 leaf_stands s p z f k l v e =
     let d = l.front in
@@ -76,7 +76,7 @@ unfolding either either_fields
 either_placed s e d f g h k (inl a) p z q = h a p z q
 either_placed s e d f g h k (inr b) p z q = k b p z q
 
-flag_placed : (s : List ℕ) (f : Field) (k : Option ℕ) → Placed s critical (λ v b. flag_fields f k v b)
+flag_placed : (s : List ℕ) (f : Field) (k : ℕ) → Placed s critical (λ v b. flag_fields f k v b)
 unfolding critical flag_fields
 flag_placed s f k true p z q =
     (leaf_stands s p z f k boolean yes_byte q, tt)
@@ -86,7 +86,7 @@ module _ (s : List ℕ) where
   mutual
     unfolding encode item_fields
 
-    item_placed : (i : Item) (f : Field) (k : Option ℕ) → Placed s (λ v. encode i v) (λ v b. item_fields i f k v b)
+    item_placed : (i : Item) (f : Field) (k : ℕ) → Placed s (λ v. encode i v) (λ v b. item_fields i f k v b)
     item_placed (leaf l) f k v p z q = (leaf_stands s p z f k l v q, tt)
     item_placed (node t r) f k v p z q =
         let n = inside s p z t (encodes r v) q in
@@ -94,21 +94,21 @@ module _ (s : List ℕ) where
     item_placed (list t e m g i) f k vs p z q =
         let c : List ℕ = each (λ v. encode i v) vs in
         let n = inside s p z t c q in
-        let u = each_placed s (λ v. encode i v) (λ j v b. item_fields i g (some j) v b) (λ j v p z q. item_placed i g (some j) v p z q) 0 vs (p ++ (t ∷ octets forms (length c))) z n.0 in
-        all_append (Stands s) (each_fields (λ j v b. item_fields i g (some j) v b) (λ v. encode i v) 0 vs (length p + before (length c))) _ (rw n.1 at u) ((p, z, q, refl), tt)
+        let u = each_placed s (λ v. encode i v) (λ j v b. item_fields i g j v b) (λ j v p z q. item_placed i g j v p z q) 0 vs (p ++ (t ∷ octets forms (length c))) z n.0 in
+        all_append (Stands s) (each_fields (λ j v b. item_fields i g j v b) (λ v. encode i v) 0 vs (length p + before (length c))) _ (rw n.1 at u) ((p, z, q, refl), tt)
     item_placed (wrap t i) f k v p z q =
         let n = inside s p z t (encode i v) q in
         rw n.1 at (item_placed i f k v (p ++ (t ∷ octets forms (length (encode i v)))) z n.0)
 
-    run_placed : (r : Members) (k : Option ℕ) → Placed s (λ v. encodes r v) (λ v b. run_fields r k v b)
+    run_placed : (r : Members) (k : ℕ) → Placed s (λ v. encodes r v) (λ v b. run_fields r k v b)
     run_placed end k v p z q = tt
     run_placed (m ▸ r) k v p z q =
         let n = past s p (encode_part m v.0) (encodes r v.1) z q in
         let u = run_placed r k v.1 (p ++ encode_part m v.0) z n.1 in
         all_append (Stands s) (part_fields m k v.0 (length p)) _ (part_placed m k v.0 p (encodes r v.1 ++ z) n.0) (rw n.2 at u)
 
-    part_placed : (m : Member) (k : Option ℕ) → Placed s (λ v. encode_part m v) (λ v b. part_fields m k v b)
-    part_placed (known f w) k v p z q = tt
+    part_placed : (m : Member) (k : ℕ) → Placed s (λ v. encode_part m v) (λ v b. part_fields m k v b)
+    part_placed (known w) k v p z q = tt
     part_placed (one f i) k v p z q = item_placed i f k v p z q
     part_placed (maybe f i) k v p z q = option_placed s (λ x. encode i x) (λ x b. item_fields i f k x b) (λ x p z q. item_placed i f k x p z q) v p z q
     part_placed (flag f) k v p z q = flag_placed s f k v p z q
@@ -126,12 +126,12 @@ fields_stand r v =
     let c : List ℕ = encodes r v in
     let n = inside (record_of r v) [] [] sequence c (sym (append-nil (record_of r v))) in
     let m : length (sequence ∷ octets forms (length c)) ≡ before (length c) = omega arith in
-    rw m at (run_placed (record_of r v) r none v (sequence ∷ octets forms (length c)) [] n.0)
+    rw m at (run_placed (record_of r v) r 0 v (sequence ∷ octets forms (length c)) [] n.0)
 
 -- ---- a part is what its section has
 
 -- where a primitive item holds bytes, those that are handed out of it and those of its section are the same
-pub part_is_section : (l : Leaf) → IsBytes l.holds → (f : Field) (k : Option ℕ) (v : List ℕ) (b : ℕ)
+pub part_is_section : (l : Leaf) → IsBytes l.holds → (f : Field) (k : ℕ) (v : List ℕ) (b : ℕ)
     → (x : Entry) × (item_fields (leaf l) f k v b ≡ x ∷ []) × (sheet (leaf l) v ≡ section x.bytes)
 unfolding item_fields sheet
 part_is_section l i f k v b = (entry f k (start_of l v b) v, refl, ap section (section_is_value l.holds i v))

@@ -2,7 +2,7 @@
 use Rattle.std.specs.Prelude.{◌≡◌, refl, Bool, true, false, length, take, replicate}
 use Rattle.std.proofs.Common.{sym, ap, ◌∙◌, arith, length-set}
 use Prim.Native.Nat.{ℕ, suc, zero, ◌+◌, ◌≤◌, ◌<◌}
-use Rattle.std.proofs.Math.Option.{Option, none, some}
+use Rattle.std.proofs.Math.Option.{none, some}
 use mathlib.Core.List.{List, [], ◌∷◌, ◌++◌, append-nil}
 use Rattle.std.proofs.lemmas.List.{length-replicate}
 use Rattle.std.proofs.Math.Seq.{take-length}
@@ -29,7 +29,7 @@ use Rattle.layouts.specs.Laws.Passed.{passed_placed, placed_whole}
 abbrev Passes : {A : Type 0} → (List ℕ → ℕ → Res (Got A)) → (List ℕ → ℕ → List Entry) → (A → ℕ → List Entry) → Type 0
 Passes {A} g p f = (w : List ℕ) (b : ℕ) (a : Got A) → g w b ≡ good a → p w b ≡ f a.value b
 
-leaf_passes : (l : Leaf) (f : Field) (k : Option ℕ) (w : List ℕ) (b : ℕ) (c : Cut) → read_leaf l w b ≡ good c → passed_leaf l f k w b ≡ entry f k (start_of l c.content b) c.content ∷ []
+leaf_passes : (l : Leaf) (f : Field) (k : ℕ) (w : List ℕ) (b : ℕ) (c : Cut) → read_leaf l w b ≡ good c → passed_leaf l f k w b ≡ entry f k (start_of l c.content b) c.content ∷ []
 unfolding passed_leaf
 leaf_passes l f k w b c h = rw h (ap (λ (n : ℕ). entry f k n c.content ∷ []) (leaf_back l w b c h).2)
 
@@ -53,7 +53,7 @@ option-passes g p f o t w b x h = go (begins t w) h
     go true e = by_bind _ _ _ e λ a e₁ e₂. rw (← good_inj e₂) (o w b a e₁)
     go false e = rw (← good_inj e)
 
-flag_passes : (f : Field) (k : Option ℕ) → Passes read_flag (λ w b. pick (begins boolean.tag w) (passed_leaf boolean f k w b) []) (flag_fields f k)
+flag_passes : (f : Field) (k : ℕ) → Passes read_flag (λ w b. pick (begins boolean.tag w) (passed_leaf boolean f k w b) []) (flag_fields f k)
 unfolding read_flag flag_fields pick
 flag_passes f k w b x h = go (begins boolean.tag w) h
   where
@@ -75,7 +75,7 @@ either-passes g p f g' p' f' o o' false w b x h = by_bind _ _ _ h λ a e₁ e₂
 mutual
   unfolding read passed item_fields
 
-  item_passes : (i : Item) (f : Field) (k : Option ℕ) → Passes (λ w b. read i w b) (λ w b. passed i f k w b) (λ v b. item_fields i f k v b)
+  item_passes : (i : Item) (f : Field) (k : ℕ) → Passes (λ w b. read i w b) (λ w b. passed i f k w b) (λ v b. item_fields i f k v b)
   item_passes (leaf l) f k w b x h = by_bind _ _ _ h λ c e₁ e₂. rw (← good_inj e₂) (leaf_passes l f k w b c e₁)
   item_passes (node t r) f k w b x h =
       by_bind _ _ _ h λ c e₁ e₂. by_bind _ _ _ e₂ λ v e₃ e₄.
@@ -92,8 +92,8 @@ mutual
         need_eq (enough e c.content) no_item b (good vs) y,
         ← s.0,
         ← m,
-        many-passes (λ x p. read i x p) (λ v. encode i v) (λ v. Ok i v) (λ j x p. passed i g (some j) x p) (λ j v p. item_fields i g (some j) v p) (λ z p q d. backward i z p q d)
-            (λ j z p q d. item_passes i g (some j) z p q d) n 0 c.content c.start vs e₄,
+        many-passes (λ x p. read i x p) (λ v. encode i v) (λ v. Ok i v) (λ j x p. passed i g j x p) (λ j v p. item_fields i g j v p) (λ z p q d. backward i z p q d)
+            (λ j z p q d. item_passes i g j z p q d) n 0 c.content c.start vs e₄,
       )
   item_passes (wrap t i) f k w b x h =
       by_bind _ _ _ h λ c e₁ e₂. by_bind _ _ _ e₂ λ a e₃ e₄. by_bind _ _ _ e₄ λ z e₅ e₆.
@@ -103,14 +103,14 @@ mutual
       let y : c.content ≡ encode i a.value = s.0 ∙ ap (λ (z : List ℕ). encode i a.value ++ z) o.0 ∙ append-nil (encode i a.value) in
       rw (← good_inj e₆, ← o.1, e₁, ← y, ← m) (item_passes i f k c.content c.start a e₃)
 
-  all_passes : (r : Members) (k : Option ℕ) (w : List ℕ) (b : ℕ) (v : Values r) → reads r w b ≡ good v → passed_all r k w b ≡ run_fields r k v b
+  all_passes : (r : Members) (k : ℕ) (w : List ℕ) (b : ℕ) (v : Values r) → reads r w b ≡ good v → passed_all r k w b ≡ run_fields r k v b
   all_passes end k w b v h = refl
   all_passes (m ▸ r) k w b v h =
       by_bind _ _ _ h λ a e₁ e₂. by_bind _ _ _ e₂ λ x e₃ e₄.
       rw (← good_inj e₄, e₁, part-passes m k w b a e₁, all_passes r k a.rest a.after x e₃, (backward_part m w b a e₁).2)
 
-  part-passes : (m : Member) (k : Option ℕ) → Passes (λ w b. read_part m w b) (λ w b. passed_part m k w b) (λ v b. part_fields m k v b)
-  part-passes (known f y) k w b x h = refl
+  part-passes : (m : Member) (k : ℕ) → Passes (λ w b. read_part m w b) (λ w b. passed_part m k w b) (λ v b. part_fields m k v b)
+  part-passes (known y) k w b x h = refl
   part-passes (one f i) k w b x h = item_passes i f k w b x h
   part-passes (maybe f i) k w b x h = option-passes (λ w b. read i w b) (λ w b. passed i f k w b) (λ v b. item_fields i f k v b) (λ z p q d. item_passes i f k z p q d) (tag_of i) w b x h
   part-passes (flag f) k w b x h = flag_passes f k w b x h
@@ -134,12 +134,12 @@ accepted-passed most r s v h =
     let m = (head_back sequence s 0 c (outermost_back most sequence s 0 c e₃).0).1 in
     let n : before (length c.content) ≡ c.start = omega arith in
     let q : u ≡ v = ap (λ (y : Got (Values r)). y.value) (good_inj e₆) ∙ (finish_back left_over x v e₂).1 in
-    rw (e₃, ← q, ← (backwards r c.content c.start u e₅).0, n) (all_passes r none c.content c.start u e₅)
+    rw (e₃, ← q, ← (backwards r c.content c.start u e₅).0, n) (all_passes r 0 c.content c.start u e₅)
 
 -- bytes after the first that no record has room for change nothing
 pub passed-more : (most : ℕ) (r : Members) (w z : List ℕ) → most < length w → 4 ≤ length w → record_passed most r (w ++ z) ≡ record_passed most r w
 unfolding record_passed
-passed-more most r w z m h = inside-more most sequence w z 0 m h [] (λ c p. passed_all r none c p)
+passed-more most r w z m h = inside-more most sequence w z 0 m h [] (λ c p. passed_all r 0 c p)
 
 -- an accepted record's table has its fields
 pub accepted_placed : (most : ℕ) (r : Members) (s : List ℕ) (v : Values r) → accept most r s ≡ good v → (k : ℕ) → Placed k (fields r v) (record_marks most r s 0 (length s) (blank k))

@@ -1,25 +1,26 @@
 -- The table of places that `notes` makes is the one that `Placed` asks for, and there is no other. Assumes nothing.
 use Rattle.std.specs.Prelude.{◌≡◌, ◌≢◌, Bool, not, ◌&&◌, take, drop, replicate, T, eqb, ltb}
 use Rattle.std.proofs.Math.Path.{refl, sym, ap}
-use Rattle.std.proofs.Common.{◌∙◌, length-append, length-take-le, get_or-set_same, get_or-append-add, ext_get_or, nltb→le, lt→ltb, eq-eqb}
+use Rattle.std.proofs.Common.{◌∙◌, length-append, length-take-le, get_or-set_same, get_or-append-add, ext_get_or, eqb→eq, ltb→lt, nltb→le, lt→ltb}
 use Prim.Native.Nat.{ℕ, suc, zero, ◌+◌, ◌*◌, ◌-◌, ◌/◌, ◌%◌, ◌≤◌, ◌<◌}
 use native.Mathlib.Omega.{arith}
 use Rattle.std.proofs.Math.Bool.{true, false}
-use Rattle.std.proofs.Math.Option.{Option, none, some}
+use Rattle.std.proofs.Math.Option.{none, some}
 use mathlib.Core.List.{List, [], ◌∷◌, ◌++◌}
 use Rattle.std.proofs.Math.ListN.{length, get_or, set, length-set, get_or-append}
 use Rattle.std.proofs.lemmas.List.{length-replicate, get_or-replicate}
 use Rattle.std.proofs.lemmas.List.Edits.{sets, sets-eq}
 use Rattle.std.proofs.Math.Seq.{get_or-set_other}
-use Rattle.std.proofs.Math.Dec.{T_not, eqb→eq, ltb→lt}
+use Rattle.std.proofs.Math.Dec.{T_not}
+use borrow.Author.Tests.{eq-eqb}
 use Rattle.terms.specs.declared.Field.{Field}
 use Rattle.terms.specs.Names.{code, name_of}
 use Rattle.terms.specs.Laws.Names.{code_below, code_name}
 use Rattle.terms.specs.Answer.{pick}
 use Rattle.terms.specs.Laws.Answer.{test, and_l, and_r, both, pick_yes, pick_no}
-use Rattle.layouts.specs.Fields.{Entry, is_at, is_field, first}
+use Rattle.layouts.specs.Fields.{Entry, is_field, first}
 use Rattle.layouts.specs.Places.{table_size, wanted_at, wanted, slot, under, numbers_of, Placed}
-use Rattle.layouts.specs.Marks.{free, filled, noted, index_or, notes}
+use Rattle.layouts.specs.Marks.{free, filled, noted, notes}
 
 -- ---- a run of stores
 
@@ -86,139 +87,129 @@ module _ (f : Field) (k a z i : ℕ) (d : List ℕ) where
 
 -- ---- one field
 
-module _ (k : ℕ) where
-  -- the index that a field is noted by is the one that is wanted exactly where it is there for that one
-  index_is : (o : Option ℕ) → T (is_at k o) → index_or k o ≡ k
-  index_is none t = refl
-  index_is (some j) t = sym (eqb→eq k j t)
+abbrev noting : Entry → List ℕ → List ℕ
+noting x d = noted x.name x.index x.place (x.place + length x.bytes) x.items d
 
-  is_index : (o : Option ℕ) → index_or k o ≡ k → T (is_at k o)
-  is_index none e = tt
-  is_index (some j) e = rw (eq-eqb k j (sym e)) tt
+-- the test that decides whether it is noted
+abbrev is_noted : Entry → List ℕ → Bool
+is_noted x d = eqb x.index (wanted d) && free d (slot x.name)
 
-  abbrev noting : Entry → List ℕ → List ℕ
-  noting x d = noted x.name (index_or k x.index) x.place (x.place + length x.bytes) x.items d
+-- what that test says
+noted_is : (x : Entry) (d : List ℕ) → T (is_noted x d) → (x.index ≡ wanted d) × (slot x.name + 3 < length d) × (get_or d (slot x.name) 0 ≡ 0)
+unfolding free
+noted_is x d t =
+    let t' = and_r (eqb x.index (wanted d)) _ t in
+    (eqb→eq x.index (wanted d) (and_l (eqb x.index (wanted d)) _ t), ltb→lt (slot x.name + 3) (length d) (and_l (ltb (slot x.name + 3) (length d)) _ t'), eqb→eq (get_or d (slot x.name) 0) 0 (and_r (ltb (slot x.name + 3) (length d)) _ t'))
 
-  -- the test that decides whether it is noted
-  abbrev is_noted : Entry → List ℕ → Bool
-  is_noted x d = eqb (index_or k x.index) (wanted d) && free d (slot x.name)
+noted_so : (x : Entry) (d : List ℕ) → x.index ≡ wanted d → slot x.name + 3 < length d → get_or d (slot x.name) 0 ≡ 0 → T (is_noted x d)
+unfolding free
+noted_so x d i b z = both (eqb x.index (wanted d)) _ (rw (eq-eqb x.index (wanted d) i) tt) (both (ltb (slot x.name + 3) (length d)) _ (lt→ltb _ _ b) (rw z tt))
 
-  -- what that test says
-  noted_is : (x : Entry) (d : List ℕ) → T (is_noted x d) → (index_or k x.index ≡ wanted d) × (slot x.name + 3 < length d) × (get_or d (slot x.name) 0 ≡ 0)
-  unfolding free
-  noted_is x d t =
-      let t' = and_r (eqb (index_or k x.index) (wanted d)) _ t in
-      (eqb→eq (index_or k x.index) (wanted d) (and_l (eqb (index_or k x.index) (wanted d)) _ t), ltb→lt (slot x.name + 3) (length d) (and_l (ltb (slot x.name + 3) (length d)) _ t'), eqb→eq (get_or d (slot x.name) 0) 0 (and_r (ltb (slot x.name + 3) (length d)) _ t'))
+-- a field that is noted is stored in four numbers
+noted-free : (x : Entry) (d : List ℕ) → T (is_noted x d) → noting x d ≡ sets d (slot x.name) (numbers_of (some x))
+unfolding noted
+noted-free x d t =
+    let p : slot x.name + 1 ≡ suc (slot x.name) = omega arith in
+    let q : slot x.name + 2 ≡ suc (suc (slot x.name)) = omega arith in
+    let r : slot x.name + 3 ≡ suc (suc (suc (slot x.name))) = omega arith in
+    let m : x.place + length x.bytes - x.place ≡ length x.bytes = omega arith in
+    pick_yes _ _ _ t ∙ rw (p, q, r, m)
 
-  noted_so : (x : Entry) (d : List ℕ) → index_or k x.index ≡ wanted d → slot x.name + 3 < length d → get_or d (slot x.name) 0 ≡ 0 → T (is_noted x d)
-  unfolding free
-  noted_so x d i b z = both (eqb (index_or k x.index) (wanted d)) _ (rw (eq-eqb (index_or k x.index) (wanted d) i) tt) (both (ltb (slot x.name + 3) (length d)) _ (lt→ltb _ _ b) (rw z tt))
+-- a field that is not noted changes nothing
+noted-held : (x : Entry) (d : List ℕ) → T (not (is_noted x d)) → noting x d ≡ d
+unfolding noted
+noted-held x d t = pick_no _ _ _ t
 
-  -- a field that is noted is stored in four numbers
-  noted-free : (x : Entry) (d : List ℕ) → T (is_noted x d) → noting x d ≡ sets d (slot x.name) (numbers_of (some x))
-  unfolding noted
-  noted-free x d t =
-      let p : slot x.name + 1 ≡ suc (slot x.name) = omega arith in
-      let q : slot x.name + 2 ≡ suc (suc (slot x.name)) = omega arith in
-      let r : slot x.name + 3 ≡ suc (suc (suc (slot x.name))) = omega arith in
-      let m : x.place + length x.bytes - x.place ≡ length x.bytes = omega arith in
-      pick_yes _ _ _ t ∙ rw (p, q, r, m)
+-- either way the table keeps its size
+length-noted : (x : Entry) (d : List ℕ) → length (noting x d) ≡ length d
+length-noted x d = noted-size x.name x.index x.place (x.place + length x.bytes) x.items d
 
-  -- a field that is not noted changes nothing
-  noted-held : (x : Entry) (d : List ℕ) → T (not (is_noted x d)) → noting x d ≡ d
-  unfolding noted
-  noted-held x d t = pick_no _ _ _ t
+-- and the index that is wanted
+wanted-noted : (x : Entry) (d : List ℕ) → wanted (noting x d) ≡ wanted d
+unfolding wanted
+wanted-noted x d = noted-behind x.name x.index x.place (x.place + length x.bytes) x.items d wanted_at (omega arith)
 
-  -- either way the table keeps its size
-  length-noted : (x : Entry) (d : List ℕ) → length (noting x d) ≡ length d
-  length-noted x d = noted-size x.name (index_or k x.index) x.place (x.place + length x.bytes) x.items d
+module _ (f : Field) where
+  -- a field of another name, and one that is not noted, leave what stands under a name
+  noted_past : (x : Entry) (d : List ℕ) → (code f ≡ code x.name → T (is_noted x d) → ⊥) → under f (noting x d) ≡ under f d
+  unfolding under slot
+  noted_past x d h =
+      test (is_noted x d)
+      (λ t. rw (noted-free x d t)
+      (under_is f (sets d (slot x.name) (numbers_of (some x))) (under f d) refl λ j b.
+      sets_other (numbers_of (some x)) d (slot x.name) (slot f + j) (λ i c e. h (omega arith) t) ∙ sym (under_at f d j b)))
+      (λ t. rw (noted-held x d t))
 
-  -- and the index that is wanted
-  wanted-noted : (x : Entry) (d : List ℕ) → wanted (noting x d) ≡ wanted d
-  unfolding wanted
-  wanted-noted x d = noted-behind x.name (index_or k x.index) x.place (x.place + length x.bytes) x.items d wanted_at (omega arith)
+  -- names of one number have one place
+  slot_alike : (g : Field) → code f ≡ code g → slot g ≡ slot f
+  unfolding slot
+  slot_alike g e = ap (λ (k : ℕ). 4 * k) (sym e)
 
-  module _ (f : Field) where
-    -- a field of another name, and one that is not noted, leave what stands under a name
-    noted_past : (x : Entry) (d : List ℕ) → (code f ≡ code x.name → T (is_noted x d) → ⊥) → under f (noting x d) ≡ under f d
-    unfolding under slot
-    noted_past x d h =
-        test (is_noted x d)
-        (λ t. rw (noted-free x d t)
-        (under_is f (sets d (slot x.name) (numbers_of (some x))) (under f d) refl λ j b.
-        sets_other (numbers_of (some x)) d (slot x.name) (slot f + j) (λ i c e. h (omega arith) t) ∙ sym (under_at f d j b)))
-        (λ t. rw (noted-held x d t))
+  -- a field that is noted stands under its name
+  noted-there : (x : Entry) (d : List ℕ) → code f ≡ code x.name → T (is_noted x d) → under f (noting x d) ≡ numbers_of (some x)
+  noted-there x d e t =
+      let s = slot_alike x.name e in
+      let b = noted_is x d t in
+      rw (noted-free x d t, s) (under_is f (sets d (slot f) (numbers_of (some x))) (numbers_of (some x)) refl λ j c. sets_here (numbers_of (some x)) d (slot f) j (omega arith) c)
 
-    -- names of one number have one place
-    slot_alike : (g : Field) → code f ≡ code g → slot g ≡ slot f
-    unfolding slot
-    slot_alike g e = ap (λ (k : ℕ). 4 * k) (sym e)
+  -- a field that is asked for has the name's number and the index
+  field_is : (k : ℕ) (x : Entry) → T (is_field f k x) → (code f ≡ code x.name) × (x.index ≡ k)
+  unfolding is_field
+  field_is k x t =
+      (eqb→eq (code f) (code x.name) (and_l (eqb (code f) (code x.name)) _ t), sym (eqb→eq k x.index (and_r (eqb (code f) (code x.name)) _ t)))
 
-    -- a field that is noted stands under its name
-    noted-there : (x : Entry) (d : List ℕ) → code f ≡ code x.name → T (is_noted x d) → under f (noting x d) ≡ numbers_of (some x)
-    noted-there x d e t =
-        let s = slot_alike x.name e in
-        let b = noted_is x d t in
-        rw (noted-free x d t, s) (under_is f (sets d (slot f) (numbers_of (some x))) (numbers_of (some x)) refl λ j c. sets_here (numbers_of (some x)) d (slot f) j (omega arith) c)
+  -- and one that has them is asked for
+  is_field_lem : (k : ℕ) (x : Entry) → code f ≡ code x.name → x.index ≡ k → T (is_field f k x)
+  unfolding is_field
+  is_field_lem k x e i = rw (eq-eqb (code f) (code x.name) e, eq-eqb k x.index (sym i)) tt
 
-    -- a field that is asked for has the name's number and the index
-    field_is : (x : Entry) → T (is_field f k x) → (code f ≡ code x.name) × (index_or k x.index ≡ k)
-    unfolding is_field
-    field_is x t =
-        (eqb→eq (code f) (code x.name) (and_l (eqb (code f) (code x.name)) _ t), index_is x.index (and_r (eqb (code f) (code x.name)) _ t))
+  -- ---- a list of fields
 
-    -- and one that has them is asked for
-    is_field_lem : (x : Entry) → code f ≡ code x.name → index_or k x.index ≡ k → T (is_field f k x)
-    unfolding is_field
-    is_field_lem x e i = rw (eq-eqb (code f) (code x.name) e) (is_index x.index i)
+  -- what stands under a name stays
+  kept : (xs : List Entry) (d : List ℕ) → get_or d (slot f) 0 ≡ 1 → under f (notes xs d) ≡ under f d
+  unfolding notes under
+  kept [] d h = refl
+  kept (x ∷ xs) d h =
+      let u = noted_past x d λ e t. let z : get_or d (slot f) 0 ≡ 0 = rw (← slot_alike x.name e) (noted_is x d t).2 in omega arith in
+      kept xs (noting x d) (first_is f (noting x d) (under f d) u ∙ h) ∙ u
 
-    -- ---- a list of fields
-
-    -- what stands under a name stays
-    kept : (xs : List Entry) (d : List ℕ) → get_or d (slot f) 0 ≡ 1 → under f (notes k xs d) ≡ under f d
-    unfolding notes under
-    kept [] d h = refl
-    kept (x ∷ xs) d h =
-        let u = noted_past x d λ e t. let z : get_or d (slot f) 0 ≡ 0 = rw (← slot_alike x.name e) (noted_is x d t).2 in omega arith in
-        kept xs (noting x d) (first_is f (noting x d) (under f d) u ∙ h) ∙ u
-
-    -- under a name that is empty the first field of that name and index comes to stand
-    found : (xs : List Entry) (d : List ℕ) → wanted d ≡ k → length d ≡ table_size → under f d ≡ numbers_of none → under f (notes k xs d) ≡ numbers_of (first (is_field f k) xs)
-    unfolding notes first
-    found [] d i l h = h
-    found (x ∷ xs) d i l h =
-        test (is_field f k x)
-        (λ t. let q = field_is x t in
-        let s = slot_alike x.name q.0 in
-        let c = code_below f in
-        let b : slot x.name + 3 < length d = rw s (unfold slot in omega arith) in
-        let w = noted_so x d (q.1 ∙ sym i) b (rw s (first_is f d (numbers_of none) h)) in
-        let u = noted-there x d q.0 w in
-        rw (pick_yes _ _ _ t) (kept xs (noting x d) (first_is f (noting x d) (numbers_of (some x)) u) ∙ u))
-        (λ t. let u = noted_past x d λ e w. T_not (is_field f k x) t (is_field_lem x e ((noted_is x d w).0 ∙ i)) in
-        rw (pick_no _ _ _ t) (found xs (noting x d) (wanted-noted x d ∙ i) (length-noted x d ∙ l) (u ∙ h)))
+  -- under a name that is empty the first field of that name and index comes to stand
+  found : (k : ℕ) (xs : List Entry) (d : List ℕ) → wanted d ≡ k → length d ≡ table_size → under f d ≡ numbers_of none → under f (notes xs d) ≡ numbers_of (first (is_field f k) xs)
+  unfolding notes first
+  found k [] d i l h = h
+  found k (x ∷ xs) d i l h =
+      test (is_field f k x)
+      (λ t. let q = field_is k x t in
+      let s = slot_alike x.name q.0 in
+      let c = code_below f in
+      let b : slot x.name + 3 < length d = rw s (unfold slot in omega arith) in
+      let w = noted_so x d (q.1 ∙ sym i) b (rw s (first_is f d (numbers_of none) h)) in
+      let u = noted-there x d q.0 w in
+      rw (pick_yes _ _ _ t) (kept xs (noting x d) (first_is f (noting x d) (numbers_of (some x)) u) ∙ u))
+      (λ t. let u = noted_past x d λ e w. T_not (is_field f k x) t (is_field_lem k x e ((noted_is x d w).0 ∙ i)) in
+      rw (pick_no _ _ _ t) (found k xs (noting x d) (wanted-noted x d ∙ i) (length-noted x d ∙ l) (u ∙ h)))
 
 -- a table in which nothing is noted yet
 abbrev pub blank : ℕ → List ℕ
 blank k = set (replicate table_size 0) wanted_at k
 
-wanted-notes : (k : ℕ) (xs : List Entry) (d : List ℕ) → wanted (notes k xs d) ≡ wanted d
+wanted-notes : (xs : List Entry) (d : List ℕ) → wanted (notes xs d) ≡ wanted d
 unfolding notes
-wanted-notes k [] d = refl
-wanted-notes k (x ∷ xs) d = wanted-notes k xs (noting k x d) ∙ wanted-noted k x d
+wanted-notes [] d = refl
+wanted-notes (x ∷ xs) d = wanted-notes xs (noting x d) ∙ wanted-noted x d
 
-pub wanted-blank : (k : ℕ) → wanted (blank k) ≡ k
+wanted-blank : (k : ℕ) → wanted (blank k) ≡ k
 unfolding wanted
 wanted-blank k = get_or-set_same (replicate table_size 0) wanted_at k 0 (omega (arith, length-replicate {A = ℕ} table_size 0))
 
 -- the table that is made is the one that is asked for
-pub placed : (k : ℕ) (xs : List Entry) → Placed k xs (notes k xs (blank k))
+pub placed : (k : ℕ) (xs : List Entry) → Placed k xs (notes xs (blank k))
 unfolding slot
 placed k xs = (
-  wanted-notes k xs (blank k) ∙ wanted-blank k,
+  wanted-notes xs (blank k) ∙ wanted-blank k,
   λ f.
       let c = code_below f in
-      found k f xs (blank k) (wanted-blank k) (length-set (replicate table_size 0) wanted_at k ∙ length-replicate {A = ℕ} table_size 0)
+      found f k xs (blank k) (wanted-blank k) (length-set (replicate table_size 0) wanted_at k ∙ length-replicate {A = ℕ} table_size 0)
       (under_is f (blank k) (numbers_of none) refl λ j b.
       get_or-set_other (replicate table_size 0) wanted_at (slot f + j) k 0 (λ q. omega arith) ∙ get_or-replicate table_size (slot f + j) 0 0 (omega arith) ∙ sym (get_or-replicate 4 j 0 0 b)),
 )

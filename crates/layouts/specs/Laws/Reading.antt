@@ -26,7 +26,7 @@ use Rattle.layouts.specs.Reading.{next, behind, read_leaf, begins, many, read_op
 -- no value of the run begins with the tag
 unfoldable pub apart : ℕ → Members → Bool
 apart t end = true
-apart t (known f w ▸ r) = not (eqb w.leaf.tag t)
+apart t (known w ▸ r) = not (eqb w.leaf.tag t)
 apart t (one f i ▸ r) = not (eqb (tag_of i) t)
 apart t (maybe f i ▸ r) = not (eqb (tag_of i) t) && apart t r
 apart t (flag f ▸ r) = not (eqb boolean.tag t) && apart t r
@@ -34,7 +34,7 @@ apart t (choose f l g h i j ▸ r) = not (eqb l.tag t)
 
 -- what may be missing is told from what follows it
 unfoldable pub tells : Member → Members → Bool
-tells (known f w) r = true
+tells (known w) r = true
 tells (one f i) r = true
 tells (maybe f i) r = apart (tag_of i) r
 tells (flag f) r = apart boolean.tag r
@@ -43,7 +43,7 @@ tells (choose f l g h i j) r = true
 -- how many bytes a run's sheet may have for members that have none in the record
 unfoldable pub spare : Members → ℕ
 spare end = 0
-spare (known f w ▸ r) = spare r
+spare (known w ▸ r) = spare r
 spare (one f i ▸ r) = spare r
 spare (maybe f i ▸ r) = 4 + spare r
 spare (flag f ▸ r) = 5 + spare r
@@ -61,7 +61,7 @@ unfoldable mutual
   clears (m ▸ r) = tells m r && (clear_part m && clears r)
 
   pub clear_part : Member → Bool
-  clear_part (known f w) = passes (known_rule w w.content)
+  clear_part (known w) = passes (known_rule w w.content)
   clear_part (one f i) = clear i
   clear_part (maybe f i) = clear i
   clear_part (flag f) = true
@@ -261,7 +261,7 @@ begins-critical t false w p q = p
 begins-apart : (t : ℕ) (r : Members) (v : Values r) → T (apart t r) → begins t (encodes r v) ≡ false
 unfolding begins encodes encode_leaf apart
 begins-apart t end v h = refl
-begins-apart t (known f w ▸ r) v h = begins-tlv t w.leaf.tag w.content (encodes r v.1) h
+begins-apart t (known w ▸ r) v h = begins-tlv t w.leaf.tag w.content (encodes r v.1) h
 begins-apart t (one f i ▸ r) v h = begins-other t i v.0 (encodes r v.1) h
 begins-apart t (maybe f i ▸ r) v h =
     begins-option t (λ x. encode i x) v.0 (encodes r v.1)
@@ -277,7 +277,7 @@ begins-apart t (choose f l g k i j ▸ r) v h =
 
 -- what follows a member that may be missing does not begin as it does
 abbrev Follows : Member → List ℕ → Type 0
-Follows (known f k) w = Unit {0}
+Follows (known k) w = Unit {0}
 Follows (one f i) w = Unit {0}
 Follows (maybe f i) w = begins (tag_of i) w ≡ false
 Follows (flag f) w = begins boolean.tag w ≡ false
@@ -285,7 +285,7 @@ Follows (choose f l g h i j) w = Unit {0}
 
 follows : (m : Member) (r : Members) (v : Values r) → T (tells m r) → Follows m (encodes r v)
 unfolding tells
-follows (known f w) r v h = tt
+follows (known w) r v h = tt
 follows (one f i) r v h = tt
 follows (maybe f i) r v h = begins-apart (tag_of i) r v h
 follows (flag f) r v h = begins-apart boolean.tag r v h
@@ -335,7 +335,7 @@ mutual
 
   pub forward_part : (m : Member) → T (clear_part m) → (v : Part m) → OkPart m v → (w : List ℕ) (b : ℕ) → Follows m w → length (encode_part m v) < unspelled
       → read_part m (encode_part m v ++ w) b ≡ good (got v w (b + length (encode_part m v)))
-  forward_part (known f x) k v ok w b q h =
+  forward_part (known x) k v ok w b q h =
       rw (leaf_forward (only x) x.content w b (passed (known_rule x x.content) k) h) (ap (λ (m : ℕ). good (got v w m)) (leaf_ends (only x) x.content b))
   forward_part (one f i) k v ok w b q h = forward i k v ok w b h
   forward_part (maybe f i) k v ok w b q h =
@@ -404,7 +404,7 @@ mutual
       rw (← good_inj e₄) (u.0 ∙ ap (λ (z : List ℕ). encode_part m a.value ++ z) s.0, (u.1, s.1))
 
   pub backward_part : (m : Member) → Backward (λ w b. read_part m w b) (λ v. encode_part m v) (λ v. OkPart m v)
-  backward_part (known f y) w b x q =
+  backward_part (known y) w b x q =
       by_bind _ _ _ q λ a e₁ e₂.
       let u = leaf_back (only y) w b a e₁ in
       let v = only_back (rule_of y.leaf.holds) y.content y.other a.content u.1 in

@@ -256,7 +256,7 @@ module _ (s : List ℕ) where
         rw (scans-read r a.after e o.2 es, ← o.0) (out-map (λ x. e) (λ x. e) _ _ λ a. refl))
 
     pub part-read : (m : Member) (p e : ℕ) → p ≤ e → e ≤ length s → scan_part m s p e ≡ step (read_part m (slice p e s) p)
-    part-read (known f k) p e pe es =
+    part-read (known k) p e pe es =
         rw (leaf_agree (only k) p e pe es) (seen-bind (λ x. x.after) _ _ _ λ c h. refl)
     part-read (one f i) p e pe es = scan-read i p e pe es
     part-read (maybe f i) p e pe es =

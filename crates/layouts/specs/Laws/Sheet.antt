@@ -69,7 +69,7 @@ leaf_filled l v ok w p h =
     let m = length-section x in
     rw (section-there x w p (omega arith), value_there l.holds v ok, ok) (ap (λ (m : ℕ). good (got v w m)) (omega arith))
 
-pub leaf_unfilled : (l : Leaf) → Backward (fill_leaf l) (λ v. section (section_of l.holds v)) (λ v. rule_of l.holds v ≡ fine)
+leaf_unfilled : (l : Leaf) → Backward (fill_leaf l) (λ v. section (section_of l.holds v)) (λ v. rule_of l.holds v ≡ fine)
 unfolding fill_leaf
 leaf_unfilled l w p x e =
     by_bind _ _ _ e λ c e₁ e₂. by_bind _ _ _ e₂ λ k e₃ e₄. by_judge _ _ _ _ _ e₄ λ ok e₅. by_have _ _ _ _ e₃ λ u.
@@ -204,7 +204,7 @@ mutual
       (ap (λ (m : ℕ). good (got v w m)) (omega arith))
 
   pub filled_part : (m : Member) → T (clear_part m) → Forward uncounted (λ w p. fill_part m w p) (λ v. sheet_part m v) (λ v. OkPart m v)
-  filled_part (known f x) k v ok w p h = ap (λ (m : ℕ). good (got v w m)) (omega arith)
+  filled_part (known x) k v ok w p h = ap (λ (m : ℕ). good (got v w m)) (omega arith)
   filled_part (one f i) k v ok w p h = filled i k v ok w p h
   filled_part (maybe f i) k v ok w p h = option-filled (λ x q. fill i x q) (λ x. sheet i x) (λ x. Ok i x) (λ x o w q g. filled i k x o w q g) v ok w p h
   filled_part (flag f) k v ok w p h = flag_filled v ok w p h
@@ -240,7 +240,7 @@ mutual
       rw (← good_inj e₄) (y.0, (u.1, v.1), y.1)
 
   pub unfilled_part : (m : Member) → Backward (λ w p. fill_part m w p) (λ v. sheet_part m v) (λ v. OkPart m v)
-  unfilled_part (known f k) w p x q = rw (← good_inj q) (refl, tt, omega arith)
+  unfilled_part (known k) w p x q = rw (← good_inj q) (refl, tt, omega arith)
   unfilled_part (one f i) w p x q = unfilled i w p x q
   unfilled_part (maybe f i) w p x q = option_unfilled (λ x q. fill i x q) (λ x. sheet i x) (λ x. Ok i x) (λ y p z g. unfilled i y p z g) w p x q
   unfilled_part (flag f) w p x q = flag_unfilled w p x q
@@ -291,7 +291,7 @@ flag_short false h = omega (arith, length-section (0 ∷ []))
 
 -- what a member adds
 abbrev extra : Member → ℕ
-extra (known f w) = 0
+extra (known w) = 0
 extra (one f i) = 0
 extra (maybe f i) = 4
 extra (flag f) = 5
@@ -299,7 +299,7 @@ extra (choose f l g h i j) = 0
 
 spare-extra : (m : Member) (r : Members) → spare (m ▸ r) ≡ extra m + spare r
 unfolding spare
-spare-extra (known f w) r = omega arith
+spare-extra (known w) r = omega arith
 spare-extra (one f i) r = omega arith
 spare-extra (maybe f i) r = omega arith
 spare-extra (flag f) r = omega arith
@@ -329,7 +329,7 @@ mutual
       omega (arith, short_part m (and_l (clear_part m) (clears r) k') v.0 (omega arith), shorts r (and_r (clear_part m) (clears r) k') v.1 (omega arith), length-append (sheet_part m v.0) (sheets r v.1), spare-extra m r)
 
   short_part : (m : Member) → T (clear_part m) → Short (extra m) (λ v. sheet_part m v) (λ v. encode_part m v)
-  short_part (known f w) k v h = omega arith
+  short_part (known w) k v h = omega arith
   short_part (one f i) k v h = short i k v h
   short_part (maybe f i) k v h = option_short (λ x. sheet i x) (λ x. encode i x) (λ x g. short i k x g) v h
   short_part (flag f) k v h = flag_short v h

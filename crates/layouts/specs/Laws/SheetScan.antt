@@ -193,7 +193,7 @@ module _ (s : List ℕ) where
         rw (sheets-fill r a.after e, ← part_rest m p e a h) (out-map (λ x. x.after) (λ x. x.after) _ _ λ b. refl))
 
     pub sheet_part-fill : (m : Member) (p e : ℕ) → sheet_scan_part m s p e ≡ step (fill_part m (slice p e s) p)
-    sheet_part-fill (known f k) p e = refl
+    sheet_part-fill (known k) p e = refl
     sheet_part-fill (one f i) p e = sheet-fill i p e
     sheet_part-fill (maybe f i) p e =
         count-bind (λ x. x.after) p e _ _ λ c.

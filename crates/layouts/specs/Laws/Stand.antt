@@ -4,7 +4,6 @@ use Rattle.std.proofs.Common.{sym, ◌∙◌}
 use Rattle.std.proofs.Math.Path.{ap}
 use Prim.Native.Nat.{ℕ, suc, zero, ◌+◌}
 use Rattle.std.proofs.Math.Bool.{true, false}
-use Rattle.std.proofs.Math.Option.{Option, none, some}
 use mathlib.Core.List.{List, [], ◌∷◌, ◌++◌, append-nil}
 use Rattle.terms.specs.declared.Field.{Field}
 use Rattle.terms.specs.Numbers.{no_item}
@@ -50,7 +49,7 @@ module _ (s : List ℕ) where
   of_pick true xs ys h g = h
   of_pick false xs ys h g = g
 
-  of_leaf : (l : Leaf) (f : Field) (k : Option ℕ) (w : List ℕ) (b : ℕ) → At w b → All (Stands s) (passed_leaf l f k w b)
+  of_leaf : (l : Leaf) (f : Field) (k : ℕ) (w : List ℕ) (b : ℕ) → At w b → All (Stands s) (passed_leaf l f k w b)
   unfolding passed_leaf
   of_leaf l f k w b o =
       of-read (read_leaf l w b) _ λ c h.
@@ -76,19 +75,19 @@ module _ (s : List ℕ) where
   mutual
     unfolding passed
 
-    of_item : (i : Item) (f : Field) (k : Option ℕ) (w : List ℕ) (b : ℕ) → At w b → All (Stands s) (passed i f k w b)
+    of_item : (i : Item) (f : Field) (k : ℕ) (w : List ℕ) (b : ℕ) → At w b → All (Stands s) (passed i f k w b)
     of_item (leaf l) f k w b o = of_leaf l f k w b o
     of_item (node t r) f k w b o =
         of-read (head forms t w b) _ λ c h. let u = opened t w b o c h in (u.0, of_all r k c.content c.start u.1)
     of_item (list t e n g i) f k w b o =
         of-read (head forms t w b) _ λ c h.
         let u = opened t w b o c h in
-        all_append (Stands s) (passed_many (λ x p. read i x p) (λ j x p. passed i g (some j) x p) n 0 c.content c.start) _
-        (of_many (λ x p. read i x p) (λ v. encode i v) (λ v. Ok i v) (λ j x p. passed i g (some j) x p) (λ y p x q. backward i y p x q) (λ j x p q. of_item i g (some j) x p q) n 0 c.content c.start u.1)
+        all_append (Stands s) (passed_many (λ x p. read i x p) (λ j x p. passed i g j x p) n 0 c.content c.start) _
+        (of_many (λ x p. read i x p) (λ v. encode i v) (λ v. Ok i v) (λ j x p. passed i g j x p) (λ y p x q. backward i y p x q) (λ j x p q. of_item i g j x p q) n 0 c.content c.start u.1)
         (of-read (need (enough e c.content) no_item b (many (λ x p. read i x p) n c.content c.start)) (λ vs. list_entry f k b (tlv t c.content) (length vs) ∷ []) λ vs m. (u.0, tt))
     of_item (wrap t i) f k w b o = of-read (head forms t w b) _ λ c h. of_item i f k c.content c.start (opened t w b o c h).1
 
-    of_all : (r : Members) (k : Option ℕ) (w : List ℕ) (b : ℕ) → At w b → All (Stands s) (passed_all r k w b)
+    of_all : (r : Members) (k : ℕ) (w : List ℕ) (b : ℕ) → At w b → All (Stands s) (passed_all r k w b)
     of_all end k w b o = tt
     of_all (m ▸ r) k w b o =
         all_append (Stands s) (passed_part m k w b) _ (of_part_lem m k w b o)
@@ -96,8 +95,8 @@ module _ (s : List ℕ) where
         let u = backward_part m w b a h in
         of_all r k a.rest a.after (begun w b o (encode_part m a.value) a.rest a.after u.0 u.2).1)
 
-    of_part_lem : (m : Member) (k : Option ℕ) (w : List ℕ) (b : ℕ) → At w b → All (Stands s) (passed_part m k w b)
-    of_part_lem (known f x) k w b o = tt
+    of_part_lem : (m : Member) (k : ℕ) (w : List ℕ) (b : ℕ) → At w b → All (Stands s) (passed_part m k w b)
+    of_part_lem (known x) k w b o = tt
     of_part_lem (one f i) k w b o = of_item i f k w b o
     of_part_lem (maybe f i) k w b o = of_pick (begins (tag_of i) w) _ _ (of_item i f k w b o) tt
     of_part_lem (flag f) k w b o = of_pick (begins boolean.tag w) _ _ (of_leaf boolean f k w b o) tt
@@ -113,4 +112,4 @@ pub passed_stand : (most : ℕ) (r : Members) (s : List ℕ) → All (Stands s) 
 unfolding record_passed
 passed_stand most r s =
     of-read s (outermost forms most sequence s 0) _ λ c e.
-    of_all s r none c.content c.start (opened s sequence s 0 ([], [], sym (append-nil s), refl) c (outermost_back most sequence s 0 c e).0).1
+    of_all s r 0 c.content c.start (opened s sequence s 0 ([], [], sym (append-nil s), refl) c (outermost_back most sequence s 0 c e).0).1

@@ -56,11 +56,11 @@ module _ (named : Field → Bool) where
   passed_by q a [] h = tt
   passed_by q a (x ∷ xs) h = (test (q x) (λ t. absurd (T_not (named x.name) h.0 (a x t))) (λ t. t), passed_by q a xs h.1)
 
-  lacks_none : (q : Entry → Bool) → Asks q → (r : Members) → T (lacks r) → (v : Values r) → Oks r v → (b : ℕ) → All (λ x. T (not (q x))) (run_fields r none v b)
-  lacks_none q a r t v o b = passed_by q a (run_fields r none v b) (run_passes (λ f l. other f) other (λ x. T (other x.name)) (λ f l t v o k b. t) (λ f t k b x n. t) r t none v o b)
+  lacks_none : (q : Entry → Bool) → Asks q → (r : Members) → T (lacks r) → (v : Values r) → Oks r v → (b : ℕ) → All (λ x. T (not (q x))) (run_fields r 0 v b)
+  lacks_none q a r t v o b = passed_by q a (run_fields r 0 v b) (run_passes (λ f l. other f) other (λ x. T (other x.name)) (λ f l t v o k b. t) (λ f t k b x n. t) r t 0 v o b)
 
-  lacks_part_none : (q : Entry → Bool) → Asks q → (m : Member) → T (lacks_part m) → (v : Part m) → OkPart m v → (b : ℕ) → All (λ x. T (not (q x))) (part_fields m none v b)
-  lacks_part_none q a m t v o b = passed_by q a (part_fields m none v b) (part-passes (λ f l. other f) other (λ x. T (other x.name)) (λ f l t v o k b. t) (λ f t k b x n. t) m t none v o b)
+  lacks_part_none : (q : Entry → Bool) → Asks q → (m : Member) → T (lacks_part m) → (v : Part m) → OkPart m v → (b : ℕ) → All (λ x. T (not (q x))) (part_fields m 0 v b)
+  lacks_part_none q a m t v o b = passed_by q a (part_fields m 0 v b) (part-passes (λ f l. other f) other (λ x. T (other x.name)) (λ f l t v o k b. t) (λ f t k b x n. t) m t 0 v o b)
 
   -- a way to a member: it is the first, it stands after another, or in a tag
   pub data Way (m : Member) : Members → Type 0 where
@@ -75,11 +75,11 @@ module _ (named : Field → Bool) where
     pub earlier : List ℕ
     pub later : List ℕ
     pub written : s ≡ earlier ++ (encode_part m value ++ later)
-    pub alike : (q : Entry → Bool) → Asks q → first q xs ≡ first q (part_fields m none value (length earlier))
+    pub alike : (q : Entry → Bool) → Asks q → first q xs ≡ first q (part_fields m 0 value (length earlier))
 
   -- where a way leads in a run that stands in `s`
   module _ (m : Member) (s : List ℕ) where
-    led : {r : Members} → Way m r → (v : Values r) → Oks r v → (p z : List ℕ) → s ≡ p ++ (encodes r v ++ z) → Holds m s (run_fields r none v (length p))
+    led : {r : Members} → Way m r → (v : Values r) → Oks r v → (p z : List ℕ) → s ≡ p ++ (encodes r v ++ z) → Holds m s (run_fields r 0 v (length p))
     unfolding encodes run_fields first
     led (here {r} t) v o p z e =
         let n = past s p (encode_part m v.0) (encodes r v.1) z e in
@@ -89,7 +89,7 @@ module _ (named : Field → Bool) where
           earlier = p;
           later = encodes r v.1 ++ z;
           written = n.0;
-          alike = λ q a. first_stop q (part_fields m none v.0 (length p)) _ (lacks_none q a r t v.1 o.1 _);
+          alike = λ q a. first_stop q (part_fields m 0 v.0 (length p)) _ (lacks_none q a r t v.1 o.1 _);
         }
     led (beyond {m'} {r} t w) v o p z e =
         let n = past s p (encode_part m' v.0) (encodes r v.1) z e in
@@ -100,7 +100,7 @@ module _ (named : Field → Bool) where
           earlier = h.earlier;
           later = h.later;
           written = h.written;
-          alike = λ q a. first_skip q (part_fields m' none v.0 (length p)) _ (lacks_part_none q a m' t v.0 o.0 _) ∙ ap (λ (b : ℕ). first q (run_fields r none v.1 b)) (sym n.2) ∙ h.alike q a;
+          alike = λ q a. first_skip q (part_fields m' 0 v.0 (length p)) _ (lacks_part_none q a m' t v.0 o.0 _) ∙ ap (λ (b : ℕ). first q (run_fields r 0 v.1 b)) (sym n.2) ∙ h.alike q a;
         }
     led (in_tag {f} {t} {r'} {r} u k w) v o p z e =
         let c : List ℕ = encodes r' v.0 in
@@ -113,8 +113,8 @@ module _ (named : Field → Bool) where
           earlier = h.earlier;
           later = h.later;
           written = h.written;
-          alike = λ q a. first_stop q (part_fields (one f (node t r')) none v.0 (length p)) _ (lacks_none q a r k v.1 o.1 _)
-              ∙ pick_no (q _) _ _ (passed_by q a (_ ∷ []) (u, tt)).0 ∙ ap (λ (b : ℕ). first q (run_fields r' none v.0 b)) (sym i.1) ∙ h.alike q a;
+          alike = λ q a. first_stop q (part_fields (one f (node t r')) 0 v.0 (length p)) _ (lacks_none q a r k v.1 o.1 _)
+              ∙ pick_no (q _) _ _ (passed_by q a (_ ∷ []) (u, tt)).0 ∙ ap (λ (b : ℕ). first q (run_fields r' 0 v.0 b)) (sym i.1) ∙ h.alike q a;
         }
 
   -- and in a whole record

@@ -5,7 +5,7 @@ use Rattle.std.proofs.Common.{◌∙◌, subst, inl, inr, lt-ltb, le-ltb}
 use Prim.Native.Nat.{ℕ, suc, zero, ◌+◌, ◌-◌, ◌≤◌, ◌<◌}
 use native.Mathlib.Omega.{arith}
 use Rattle.std.proofs.Math.Bool.{true, false}
-use Rattle.std.proofs.Math.Option.{Option, none, some}
+use Rattle.std.proofs.Math.Option.{Option, some}
 use mathlib.Core.List.{List, [], ◌∷◌, ◌++◌}
 use Rattle.std.proofs.Math.ListN.{length, length-append}
 use Rattle.std.proofs.Math.Seq.{slice, length-slice, take-length, drop_at}
@@ -65,7 +65,7 @@ record Compared (g : List ℕ) (k : Bool) (s : List ℕ) (e p : ℕ) (x rest : L
   left : slice (p + length x) e s ≡ rest
   ends : p + length x ≤ e
   begins : p < e
-  field : (ys : List Entry) → first (is_listed g) (fs ++ ys) ≡ pick (same g bytes) (some (entry name (some j) start bytes)) (first (is_listed g) ys)
+  field : (ys : List Entry) → first (is_listed g) (fs ++ ys) ≡ pick (same g bytes) (some (entry name j start bytes)) (first (is_listed g) ys)
 
 -- what is told of one of two, by a test
 picked : (b : Bool) (x : Entry) (y : Part) (o : Option Entry) → y ≡ part_of (good o) → pick b (There x.place (length x.bytes)) y ≡ part_of (good (pick b (some x) o))
@@ -78,7 +78,7 @@ one_more_lem : (g : List ℕ) (k : Bool) (s : List ℕ) (e p : ℕ) (x rest : Li
     → (n : ℕ) (ys : List Entry) → listed_at g k s e n (p + length x) ≡ part_of (good (first (is_listed g) ys)) → listed_at g k s e (suc n) p ≡ part_of (good (first (is_listed g) (fs ++ ys)))
 unfolding listed_at pick
 one_more_lem g k s e p x rest name j fs c n ys r =
-    rw (lt-ltb p e c.begins, c.entry-is, c.holds, c.size, c.field ys) (picked (same g c.bytes) (entry name (some j) c.start c.bytes) (listed_at g k s e n (p + length x)) (first (is_listed g) ys) r)
+    rw (lt-ltb p e c.begins, c.entry-is, c.holds, c.size, c.field ys) (picked (same g c.bytes) (entry name j c.start c.bytes) (listed_at g k s e n (p + length x)) (first (is_listed g) ys) r)
 
 -- entries to the end of a window
 module _ (g : List ℕ) (k : Bool) (s : List ℕ) (e : ℕ) (es : e ≤ length s) {A : Type 0} (enc : A → List ℕ) (f : ℕ → A → ℕ → List Entry) (name : Field)
@@ -113,7 +113,7 @@ entry_item = node sequence digest
 -- a certificate
 module _ (g s : List ℕ) (e : ℕ) (es : e ≤ length s) where
   certificate_compared : (j : ℕ) (v : List ℕ) (p : ℕ) (rest : List ℕ) → p ≤ e → length (encode certificate v) < unspelled → slice p e s ≡ encode certificate v ++ rest
-      → Compared g true s e p (encode certificate v) rest ListedCertificate j (item_fields certificate ListedCertificate (some j) v p)
+      → Compared g true s e p (encode certificate v) rest ListedCertificate j (item_fields certificate ListedCertificate j v p)
   unfolding encode encode_leaf item_fields first is_listed pick entry_at
   certificate_compared j v p rest pe l h =
       let n = length-tlv 0x04 v in
@@ -135,7 +135,7 @@ module _ (g s : List ℕ) (e : ℕ) (es : e ≤ length s) where
 
   -- a digest, after its type
   digest_compared : (j : ℕ) (v : Values digest) (p : ℕ) (rest : List ℕ) → p ≤ e → length (encode entry_item v) < unspelled → slice p e s ≡ encode entry_item v ++ rest
-      → Compared g false s e p (encode entry_item v) rest ListedDigest j (item_fields entry_item ListedEntry (some j) v p)
+      → Compared g false s e p (encode entry_item v) rest ListedDigest j (item_fields entry_item ListedEntry j v p)
   unfolding encode encode_leaf item_fields first is_listed pick entry_at
   digest_compared j v p rest pe l h =
       let x = tlv 0x13 v.0 in
@@ -192,21 +192,21 @@ asks-listed g x h =
 -- a list that stands at `p`
 module _ (g w : List ℕ) (k : Bool) (i : Item) (each-name name : Field)
     (item : (e : ℕ) → e ≤ length w → (j : ℕ) (v : Value i) (p : ℕ) (rest : List ℕ) → p ≤ e → length (encode i v) < unspelled → slice p e w ≡ encode i v ++ rest
-    → Compared g k w e p (encode i v) rest name j (item_fields i each-name (some j) v p))
-    (others : (j : ℕ) (v : Value i) (p : ℕ) → All (λ y. T (not (is_field CertificateList 0 y))) (item_fields i each-name (some j) v p)) where
+    → Compared g k w e p (encode i v) rest name j (item_fields i each-name j v p))
+    (others : (j : ℕ) (v : Value i) (p : ℕ) → All (λ y. T (not (is_field CertificateList 0 y))) (item_fields i each-name j v p)) where
   abbrev listed : Item
   listed = list sequence never_empty most_items each-name i
 
   module _ (vs : Value listed) (earlier later : List ℕ) (h : w ≡ earlier ++ (encode listed vs ++ later)) (l : length w < unspelled) (n : length vs ≤ most_items) where
     abbrev here : List Entry
-    here = item_fields listed CertificateList none vs (length earlier)
+    here = item_fields listed CertificateList 0 vs (length earlier)
 
     -- the list is the one that is asked for
-    list_there : first (is_field CertificateList 0) here ≡ some (list_entry CertificateList none (length earlier) (encode listed vs) (length vs))
+    list_there : first (is_field CertificateList 0) here ≡ some (list_entry CertificateList 0 (length earlier) (encode listed vs) (length vs))
     unfolding item_fields encode first is_field pick
     list_there =
-        first_skip (is_field CertificateList 0) (each_fields (λ j v p. item_fields i each-name (some j) v p) (λ v. encode i v) 0 vs _) _
-        (each_none (is_field CertificateList 0) (λ v. encode i v) (λ j v p. item_fields i each-name (some j) v p) others 0 vs _)
+        first_skip (is_field CertificateList 0) (each_fields (λ j v p. item_fields i each-name j v p) (λ v. encode i v) 0 vs _) _
+        (each_none (is_field CertificateList 0) (λ v. encode i v) (λ j v p. item_fields i each-name j v p) others 0 vs _)
 
     -- and its entries those that are compared
     list_found : of_seen (head_at sequence w (length earlier) (length w)) (λ a z. listed_at g k w z most_items a) ≡ part_of (good (first (is_listed g) here))
@@ -220,8 +220,8 @@ module _ (g w : List ℕ) (k : Bool) (i : Item) (each-name name : Field)
         let q : slice p (length w) w ≡ tlv sequence c ++ later = ap (drop p) (take-length w ∙ h) ∙ drop_at earlier (tlv sequence c ++ later) p refl in
         let r = head_window w sequence p (length w) c later (omega arith) (omega arith) (omega arith) q in
         rw r.0
-        (listed-each g k w (a + length c) r.3 (λ v. encode i v) (λ j v p. item_fields i each-name (some j) v p) name (λ j v p rest. item (a + length c) r.3 j v p rest) vs most_items n (omega arith) 0 a (omega arith) (sym r.1)
-        ∙ ap (λ (o : Option Entry). part_of (good o)) (sym (first_stop (is_listed g) (each_fields (λ j v p. item_fields i each-name (some j) v p) (λ v. encode i v) 0 vs a) _ (tt, tt))))
+        (listed-each g k w (a + length c) r.3 (λ v. encode i v) (λ j v p. item_fields i each-name j v p) name (λ j v p rest. item (a + length c) r.3 j v p rest) vs most_items n (omega arith) 0 a (omega arith) (sym r.1)
+        ∙ ap (λ (o : Option Entry). part_of (good o)) (sym (first_stop (is_listed g) (each_fields (λ j v p. item_fields i each-name j v p) (λ v. encode i v) 0 vs a) _ (tt, tt))))
 
     -- so that what the table leads to is what is sought
     list_matched : (xs : List Entry) (d : List ℕ) → Placed 0 xs d → says_kind1 (bytes_at w (part_under ListKind d)) ≡ k
@@ -240,33 +240,33 @@ module _ (g w : List ℕ) (xs : List Entry) (d : List ℕ) (pl : Placed 0 xs d) 
 
   module _ (kv : List ℕ) (s : Value certificates ⊎ Value digests) (earlier later : List ℕ)
       (h : w ≡ earlier ++ ((encode_leaf kind kv ++ either (λ v. encode certificates v) (λ v. encode digests v) s) ++ later))
-      (alike : (q : Entry → Bool) → Asks of_list q → first q xs ≡ first q (part_fields kind_and_list none (kv, s) (length earlier))) where
+      (alike : (q : Entry → Bool) → Asks of_list q → first q xs ≡ first q (part_fields kind_and_list 0 (kv, s) (length earlier))) where
     -- the kind
     kind-told : says_kind1 (bytes_at w (part_under ListKind d)) ≡ says_kind1 kv
     unfolding part_fields first is_field pick
     kind-told =
         let k = past w earlier (encode_leaf kind kv) _ later h in
-        let e = entry ListKind none (start_of kind kv (length earlier)) kv in
+        let e = entry ListKind 0 (start_of kind kv (length earlier)) kv in
         ap (λ (y : Part). says_kind1 (bytes_at w y)) (numbers_part ListKind d (first (is_field ListKind 0) xs) (pl.1 ListKind) ∙ ap (λ (o : Option Entry). part_of (good o)) (alike (is_field ListKind 0) (asks-field ListKind tt)))
-        ∙ ap says_kind1 (bytes-there w e (leaf_stands w earlier _ ListKind none kind kv k.0))
+        ∙ ap says_kind1 (bytes-there w e (leaf_stands w earlier _ ListKind 0 kind kv k.0))
 
   matched : (kv : List ℕ) (s : Value certificates ⊎ Value digests) → InEither (says_kind1 kv) (λ v. Ok certificates v) (λ v. Ok digests v) s → (earlier later : List ℕ)
       → w ≡ earlier ++ ((encode_leaf kind kv ++ either (λ v. encode certificates v) (λ v. encode digests v) s) ++ later)
-      → ((q : Entry → Bool) → Asks of_list q → first q xs ≡ first q (part_fields kind_and_list none (kv, s) (length earlier)))
+      → ((q : Entry → Bool) → Asks of_list q → first q xs ≡ first q (part_fields kind_and_list 0 (kv, s) (length earlier)))
       → match_under g w d ≡ part_of (good (first (is_listed g) xs))
   unfolding either part_fields either_fields first is_field is_listed pick
   matched kv (inl vs) o earlier later h alike =
       let k = past w earlier (encode_leaf kind kv) (encode certificates vs) later h in
       list_matched g w true certificate ListedCertificate ListedCertificate (λ e es j v p rest. certificate_compared g w e es j v p rest) (λ j v p. (tt, tt)) vs (earlier ++ encode_leaf kind kv) later k.1 l o.1.1
       xs d pl (kind-told kv (inl vs) earlier later h alike ∙ is_true (says_kind1 kv) o.0)
-      (alike (is_field CertificateList 0) (asks-field CertificateList tt) ∙ ap (λ (b : ℕ). first (is_field CertificateList 0) (item_fields certificates CertificateList none vs b)) (sym k.2))
-      (alike (is_listed g) (asks-listed g) ∙ ap (λ (b : ℕ). first (is_listed g) (item_fields certificates CertificateList none vs b)) (sym k.2))
+      (alike (is_field CertificateList 0) (asks-field CertificateList tt) ∙ ap (λ (b : ℕ). first (is_field CertificateList 0) (item_fields certificates CertificateList 0 vs b)) (sym k.2))
+      (alike (is_listed g) (asks-listed g) ∙ ap (λ (b : ℕ). first (is_listed g) (item_fields certificates CertificateList 0 vs b)) (sym k.2))
   matched kv (inr vs) o earlier later h alike =
       let k = past w earlier (encode_leaf kind kv) (encode digests vs) later h in
       list_matched g w false entry_item ListedEntry ListedDigest (λ e es j v p rest. digest_compared g w e es j v p rest) (λ j v p. (tt, (tt, (tt, tt)))) vs (earlier ++ encode_leaf kind kv) later k.1 l o.1.1
       xs d pl (kind-told kv (inr vs) earlier later h alike ∙ is_false (says_kind1 kv) o.0)
-      (alike (is_field CertificateList 0) (asks-field CertificateList tt) ∙ ap (λ (b : ℕ). first (is_field CertificateList 0) (item_fields digests CertificateList none vs b)) (sym k.2))
-      (alike (is_listed g) (asks-listed g) ∙ ap (λ (b : ℕ). first (is_listed g) (item_fields digests CertificateList none vs b)) (sym k.2))
+      (alike (is_field CertificateList 0) (asks-field CertificateList tt) ∙ ap (λ (b : ℕ). first (is_field CertificateList 0) (item_fields digests CertificateList 0 vs b)) (sym k.2))
+      (alike (is_listed g) (asks-listed g) ∙ ap (λ (b : ℕ). first (is_listed g) (item_fields digests CertificateList 0 vs b)) (sym k.2))
 
   held_matched : Holds of_list kind_and_list w xs → match_under g w d ≡ part_of (good (first (is_listed g) xs))
   unfolding encode_part

@@ -18,7 +18,6 @@ use Rattle.tags.specs.Tag.{tag_byte}
 use Rattle.layouts.specs.Layout.{Item, Members, tag_of}
 use Rattle.primitives.specs.declared.Content.{Content}
 use Rattle.primitives.specs.declared.Primitive.{Primitive}
-use Rattle.terms.specs.declared.KnownName.{KnownName}
 use Rattle.primitives.specs.declared.Word.{Word}
 use Rattle.primitives.specs.Primitive.{leaf_of, says}
 use Rattle.structures.specs.declared.Row.{Row}
@@ -172,9 +171,9 @@ module _ (from to : Side) (m : Member) (s : List ℕ) (p e : ℕ) where
   unfolding member_notes
   blank-notes i = rw i
 
-  pub known_notes : (f : KnownName) (c : Word) → m ≡ member.Known f c → member_notes from to m s p e ≡ []
+  pub known_notes : (c : Word) → m ≡ member.Known c → member_notes from to m s p e ≡ []
   unfolding member_notes
-  known_notes f c i = rw i
+  known_notes c i = rw i
 
   pub primitive_notes : (f : Field) (l : Primitive) → m ≡ member.Leaf f l → member_notes from to m s p e ≡ []
   unfolding member_notes
@@ -225,7 +224,7 @@ notes_split : (from to : Side) (m : Member) (ms : List Member) (s : List ℕ) (p
     → notes_all from to (members_of (m ∷ ms)) s p e ≡ member_notes from to m s p e ++ notes_all from to (members_of ms) s (member_move from to m s p e).0 e
 unfolding member_notes notes member_move move
 notes_split from to member.Blank ms s p e = refl
-notes_split from to (member.Known f w) ms s p e = refl
+notes_split from to (member.Known w) ms s p e = refl
 notes_split from to (member.Leaf f l) ms s p e = refl
 notes_split from to (member.Part f x) ms s p e = refl
 notes_split from to (member.Maybe f x) ms s p e = refl

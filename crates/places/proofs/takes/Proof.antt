@@ -11,11 +11,11 @@ is-free-requires c κs = search rules
 returns : tie.Need-returns
 returns c = search (rules, not_free, not-true)
 
-wanted-index-requires : tie.Need-wanted-index-requires
-wanted-index-requires c κs = search rules
+number-at-requires : tie.Need-number-at-requires
+number-at-requires c κs = search rules
 
 returns-2 : tie.Need-returns-2
 returns-2 c = search (rules, if_wanted, not-false)
 
 pub takes-spec : {M : Type 1} → statement M
-takes-spec = tie.close (tie.spec is-free-requires returns wanted-index-requires returns-2)
+takes-spec = tie.close (tie.spec is-free-requires returns number-at-requires returns-2)

@@ -6,9 +6,8 @@ use Rattle.terms.specs.Numbers.{largest_record}
 use Rattle.layouts.specs.Fields.{Entry}
 use Rattle.layouts.specs.About.{about_many, about, record_about}
 use Rattle.layouts.specs.Passed.{passed_leaf, passed_many, passed, record_passed}
-use Rattle.terms.specs.declared.KnownName.TheVariants.{HeaderName, SealVersion, SignatureVersion}
 use Rattle.layouts.specs.declared.Whose.{Whose}
-use Rattle.layouts.specs.declared.Whose.TheVariants.{Nothing, Record, Field as field, Known as fixed}
+use Rattle.layouts.specs.declared.Whose.TheVariants.{Nothing, Record, Field as field}
 use Rattle.records.specs.Record.{signature}
 use Rattle.records.specs.Samples.{record_s, record_d}
 use Rattle.records.specs.Examples.{evaluate}
@@ -23,9 +22,8 @@ faults =
     ∷ (0x30 ∷ 0x82 ∷ 0xFF ∷ 0xFC ∷ [], Record)
     ∷ (record_s ++ 0x00 ∷ [], Record)
     ∷ (set record_d 246 0xA1, Record)
-    -- a missing item: the signed part, its version, the seal in it, a custom item's value
+    -- a missing item: the signed part, the seal in it, a custom item's value
     ∷ (0x30 ∷ 0x00 ∷ [], field SignedPart)
-    ∷ (0x30 ∷ 0x02 ∷ 0x30 ∷ 0x00 ∷ [], fixed SignatureVersion)
     ∷ (0x30 ∷ 0x06 ∷ 0x30 ∷ 0x03 ∷ 0x02 ∷ 0x01 ∷ 0x04 ∷ 0x30 ∷ [], field Seal)
     ∷ (set record_d 141 0x07, field SealCustomValue)
     -- a head: the signed part's, the seal id's, the list's of each kind, the stamp's [0] and what stands in it
@@ -44,9 +42,9 @@ faults =
     ∷ (set record_s 125 0x0E, field SigningTime)
     ∷ (set record_s 147 0x80, field PropertyText)
     -- an item of one content: the two versions and "ES"
-    ∷ (set record_s 8 0x05, fixed SignatureVersion)
-    ∷ (set record_s 21 0x05, fixed SealVersion)
-    ∷ (set record_s 18 0x58, fixed HeaderName)
+    ∷ (set record_s 8 0x05, field SignedPart)
+    ∷ (set record_s 21 0x05, field Header)
+    ∷ (set record_s 18 0x58, field Header)
     -- bytes left over: in the header, the seal information, the signed part, and the stamp's [0]
     ∷ (set record_d 25 0x03, field Header)
     ∷ (set record_d 138 0x31, field SealInformation)
@@ -89,6 +87,6 @@ unfolding evaluate passed passed_leaf passed_many record_passed
 before-the-second-entry = refl
 
 -- nothing stands before a head of another tag
-before-the_record : record_passed largest_record signature (set record_s 0 0x31) ≡ []
+before_the_record : record_passed largest_record signature (set record_s 0 0x31) ≡ []
 unfolding evaluate passed passed_leaf passed_many record_passed
-before-the_record = refl
+before_the_record = refl

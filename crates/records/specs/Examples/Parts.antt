@@ -57,16 +57,6 @@ parts_d =
     ∷ (field_answer signature ListedCertificate 1 record_s, told_none absent)
     ∷ (field_answer signature ListedCertificate 1 twice, at 44 1)
     ∷ (field_answer signature SealCustomValue 2 record_d, told_none absent)
-    -- a field that stands in no list is there whatever the index; one in a list is not
-    ∷ (field_answer signature SignedPart 1 record_d, at 3 224)
-    ∷ (field_answer signature SealInformation 63 record_d, at 12 148)
-    ∷ (field_answer signature Vendor 1 record_d, at 26 4)
-    ∷ (field_answer signature Vendor 7 record_d, at 26 4)
-    ∷ (field_answer signature ListedType 2 record_d, told_none absent)
-    ∷ (field_answer signature ListedDigest 7 record_d, told_none absent)
-    ∷ (field_answer signature SignedCustomId 1 record_d, told_none absent)
-    ∷ (field_answer signature Stamp 7 record_d, at 251 3)
-    ∷ (field_answer signature Stamp 7 record_s, told_none absent)
     -- "Integers and critical come as values."; a structure that is not signed, and a list, has no section
     ∷ (field_answer signature Header 0 record_d, told_none absent)
     ∷ (field_answer signature Property 0 record_d, told_none absent)

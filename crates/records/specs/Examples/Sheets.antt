@@ -1,10 +1,9 @@
 -- Sheets, evaluated: those of S and D byte by byte, each fault that a sheet can have, and what a destination holds after each answer.
 -- The expected answers are document 01's. Assumes nothing.
 use Rattle.std.specs.Prelude.{◌≡◌, refl, ℕ, List, [], ◌∷◌, ◌++◌, length, replicate, set, take, drop}
-use Rattle.terms.specs.Numbers.{done, bad_length, not_allowed, bad_character, bad_time, bad_identifier, no_bytes, no_item, too_many_items, too_large, bad_sheet, no_room, largest_record}
+use Rattle.terms.specs.Numbers.{done, bad_length, not_allowed, bad_character, bad_time, bad_identifier, no_bytes, no_item, too_many_items, too_large, bad_sheet, no_room}
 use Rattle.terms.specs.Answer.{Told, told_one, refusal, answered}
 use Rattle.terms.specs.Laws.Table.{Row, asks, answers, agreed}
-use Rattle.layouts.specs.Sheet.{section}
 use Rattle.layouts.specs.Whole.{write_record}
 use Rattle.records.specs.Record.{seal, signature}
 use Rattle.records.specs.Handing.{fill_answer, fill_after, write_answer, write_after}
@@ -87,22 +86,6 @@ room_rows =
 rooms : asks room_rows ≡ answers room_rows
 unfolding evaluate
 rooms = agreed room_rows tt
-
--- S's sheet with picture data of `n` bytes: its record has 174 + n, where n is 256 or more
-abbrev pictured : ℕ → List ℕ
-pictured n = take 108 sheet_s ++ section (replicate n 0x00) ++ drop 113 sheet_s
-
--- 17 at the bound of the rules: a record of 65,535 bytes, and one of 65,536
-abbrev largest_rows : List Row
-largest_rows =
-    (write_answer signature (pictured 65361) (room largest_record), told_one done largest_record)
-    ∷ (write_answer signature (pictured 65361) [], refusal no_room largest_record)
-    ∷ (write_answer signature (pictured 65362) [], refusal too_large 0)
-    ∷ []
-
-largest : asks largest_rows ≡ answers largest_rows
-unfolding evaluate
-largest = agreed largest_rows tt
 
 -- ---- refused sheets
 

@@ -15,15 +15,13 @@ use Rattle.contents.specs.Content.{ask, passes}
 use Rattle.contents.specs.Integer.{sign, shortest, well_formed, value, turned}
 use Rattle.contents.specs.Text.{within, starts, follows, text_from}
 use Rattle.contents.specs.Rules.{integer_rule, string_rule, also, only_rule}
-use Rattle.contents.specs.Laws.Refusals.{string_fair, octets_fair, identifier_fair, time_fair}
 use Rattle.layouts.specs.Layout.{node, Members, ◌▸◌, one, Values, encode, encodes}
 use Rattle.layouts.specs.Sheet.{sheet, sheets}
 use Rattle.layouts.specs.Whole.{sequence, record_of}
 use Rattle.layouts.specs.Fields.{item_fields, fields, is_field, first, bytes_in}
 use Rattle.layouts.specs.Laws.Reading.{clear, clears, apart, tells, spare, injective}
-use Rattle.layouts.specs.Laws.Refusals.{FairAll}
 use Rattle.layouts.specs.Laws.Whole.{accept_back}
-use Rattle.records.specs.Record.{header, property, picture, seal_custom_item, seal_information, seal, signed_part, signature}
+use Rattle.records.specs.Record.{seal_information, seal, signed_part, signature}
 use Rattle.records.specs.Handing.{read_record, signed_bytes, information_of, signed_part_of, seal_of}
 
 -- ---- the layouts are clear
@@ -35,28 +33,6 @@ seal-clear = tt
 pub signature-clear : T (clear (node sequence signature))
 unfolding clear apart tells spare passes ask same also only_rule integer_rule string_rule well_formed shortest sign value turned number_from pick within starts follows text_from enough
 signature-clear = tt
-
--- ---- and their values are refused with numbers of values
-
-header_fair : FairAll header
-header_fair = ((string_fair _ _, tt), ((tt, tt), (string_fair _ _, tt)))
-
-property_fair : FairAll property
-property_fair = (tt, (string_fair _ _, ((tt, (octets_fair _, (string_fair _ _, (octets_fair _, tt)))), (time_fair, (time_fair, (time_fair, tt))))))
-
-picture_fair : FairAll picture
-picture_fair = (string_fair _ _, (octets_fair _, (tt, (tt, tt))))
-
--- under whichever names
-custom_fair : FairAll seal_custom_item
-custom_fair = (identifier_fair, (tt, (octets_fair _, tt)))
-
-pub seal_fair : FairAll seal
-seal_fair = ((header_fair, (string_fair _ _, (property_fair, (picture_fair, (custom_fair, tt))))), (octets_fair _, (identifier_fair, (octets_fair _, tt))))
-
-pub signature_fair : FairAll signature
-signature_fair =
-    (((tt, tt), (seal_fair, (time_fair, (octets_fair _, (string_fair _ _, (custom_fair, tt)))))), (octets_fair _, (identifier_fair, (octets_fair _, (octets_fair _, tt)))))
 
 pub record_spelled : largest_record < unspelled
 record_spelled = omega arith

@@ -1,24 +1,22 @@
 -- A run of records reads back exactly its list, and every accepted run is such a list. Assumes nothing.
 use Rattle.std.specs.Prelude.{◌≡◌, T, ltb}
 use Rattle.std.proofs.Math.Path.{refl, sym, ap, subst}
-use Rattle.std.proofs.Common.{◌∙◌, ⊎_elim, drop-cons, ltb→lt, lt→ltb, nltb→le}
+use Rattle.std.proofs.Common.{◌∙◌, drop-cons, lt→ltb}
 use Prim.Native.Nat.{ℕ, suc, zero, ◌+◌, ◌-◌, ◌≤◌, ◌<◌}
 use native.Mathlib.Omega.{arith}
 use Rattle.std.proofs.Math.Option.{none, some}
 use mathlib.Core.List.{List, [], ◌∷◌, ◌++◌, map, append_assoc, append-nil}
 use lib.ListN.{length, take, drop, replicate, length-append}
 use Rattle.std.proofs.Math.Seq.{take_at, drop_at}
-use Rattle.terms.specs.Numbers.{one_of, record_numbers, largest_record, done, run_end}
+use Rattle.terms.specs.Numbers.{largest_record, done, run_end}
 use Rattle.terms.specs.Answer.{Res, good, fault, Got, got, bind, Told, told_one, told_two, told_none}
-use Rattle.terms.specs.Laws.Answer.{never, clash, test, pick_yes, by_bind}
-use Rattle.terms.specs.Laws.Refusals.{refused, refused_bind}
+use Rattle.terms.specs.Laws.Answer.{never, pick_yes, by_bind}
 use Rattle.heads.specs.Head.{forms, tlv, octets}
 use Rattle.heads.specs.Laws.Head.{length-tlv}
 use Rattle.layouts.specs.Layout.{Members, Values, All, each, encodes}
 use Rattle.layouts.specs.Whole.{sequence, record_of, Allowed, record_at}
 use Rattle.layouts.specs.Laws.Reading.{clears}
 use Rattle.layouts.specs.Laws.Whole.{record_at_back, record_at-there}
-use Rattle.layouts.specs.Laws.Refusals.{FairAll, record_refuses}
 use Rattle.runs.specs.Run.{run_of, Ran, whole, stopped, and_then, onward, run_from, read_run, told_ran, run_answer, Reader, here_in, here_at, at, made, top, one_more, step_after, step_answer, step_part, refusal_after}
 
 -- a value whose record is accepted
@@ -192,16 +190,6 @@ module _ (r : Members) where
   pub here-inside : (s : List ℕ) (p : ℕ) → p < length s → here_at r s p ≡ (bind (record_at largest_record r (drop p s) p) λ a. good (some a))
   unfolding here_at here_in bind
   here-inside s p h = rw (drop-cons s p 0)
-
-  -- a fault has a number of records, and its place is not past the run's end
-  pub here_refused : FairAll r → (s : List ℕ) (q n p : ℕ) → here_at r s q ≡ fault n p → T (one_of record_numbers n) × (p ≤ length s)
-  here_refused k s q n p e =
-      test (ltb q (length s))
-      (λ h. let l : q < length s = ltb→lt q (length s) h in
-      let d : q + length (drop q s) ≡ length s = omega (arith, lib.ListN.length-drop q s) in
-      ⊎_elim (λ f. rw d at (refused record_numbers (q + length (drop q s)) _ n p (record_refuses largest_record r k (drop q s) q) f)) (λ (a, f, g). clash (sym g))
-      (refused_bind (record_at largest_record r (drop q s) q) _ n p (sym (here-inside s q l) ∙ e)))
-      (λ h. clash (sym e ∙ here_end s q (nltb→le q (length s) h)))
 
   -- what it takes is a record that stands there
   pub here_back : (s : List ℕ) (p : ℕ) (a : Got (Values r)) → here_at r s p ≡ good (some a) → (drop p s ≡ record_of r a.value ++ a.rest) × Accepted r a.value × (a.after ≡ p + length (record_of r a.value))

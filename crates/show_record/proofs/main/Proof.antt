@@ -1,6 +1,6 @@
 -- `show_record::main`: what was filled is a part of the input.
-use Rattle.std.proofs.Common.{rules}
 use Rattle.streams.specs.Laws.{counted-within, counted-taken}
+use Rattle.std.proofs.Common.{rules}
 use Rattle.show_record.proofs.main.Statement.{statement}
 use Rattle.show_record.proofs.main.Tie as tie
 
@@ -22,14 +22,17 @@ fail-requires c κs = search rules
 returns : tie.Need-returns
 returns c = search rules
 
+language-requires : tie.Need-language-requires
+language-requires c κs = search rules
+
 array-share-prefix-input : tie.Need-array-share-prefix-input
 array-share-prefix-input c = search (rules, counted-within)
 
-slice-aggregate-answer : tie.Need-slice-aggregate-answer
-slice-aggregate-answer c = search (rules, counted-taken)
+slice-aggregate-show : tie.Need-slice-aggregate-show
+slice-aggregate-show c = search (rules, counted-taken)
 
-answer-requires : tie.Need-answer-requires
-answer-requires c κs = search rules
+show-requires : tie.Need-show-requires
+show-requires c κs = search rules
 
 returns-2 : tie.Need-returns-2
 returns-2 c = search rules
@@ -44,7 +47,8 @@ main_spec =
     slice-aggregate-fail
     fail-requires
     returns
+    language-requires
     array-share-prefix-input
-    slice-aggregate-answer
-    answer-requires
+    slice-aggregate-show
+    show-requires
     returns-2)

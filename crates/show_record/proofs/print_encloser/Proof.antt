@@ -4,10 +4,10 @@ use Rattle.show_record.proofs.print_encloser.Statement.{statement}
 use Rattle.show_record.proofs.print_encloser.Tie as tie
 
 abbrev invariant-loop : tie.invariant-loop
-invariant-loop look line depth begin at n₀ n = Unit {0}
+invariant-loop language line depth n₀ n = Unit {0}
 
 abbrev decreases-loop : tie.decreases-loop
-decreases-loop look line depth begin at n₀ n = n
+decreases-loop language line depth n₀ n = n
 
 loop-holds : tie.Need-loop-init invariant-loop decreases-loop
 loop-holds c = search rules
@@ -27,8 +27,8 @@ loop-again c = search rules
 row-on-requires-2 : tie.Need-row-on-requires-2 invariant-loop decreases-loop
 row-on-requires-2 c κs = search rules
 
-print-on-path-requires : tie.Need-print-on-path-requires invariant-loop decreases-loop
-print-on-path-requires c κs = search rules
+print-name-requires : tie.Need-print-name-requires invariant-loop decreases-loop
+print-name-requires c κs = search rules
 
 returns : tie.Need-returns invariant-loop decreases-loop
 returns c = search rules
@@ -45,5 +45,5 @@ print-encloser-spec =
     loop-less
     loop-again
     row-on-requires-2
-    print-on-path-requires
+    print-name-requires
     returns)

@@ -4,10 +4,10 @@ use Rattle.show_record.proofs.print_item.Statement.{statement}
 use Rattle.show_record.proofs.print_item.Tie as tie
 
 abbrev invariant-loop : tie.invariant-loop
-invariant-loop look «record» index from to whole language places top found₀ n₀ found n = Unit {0}
+invariant-loop language «record» index from to whole places top found₀ n₀ found n = Unit {0}
 
 abbrev decreases-loop : tie.decreases-loop
-decreases-loop look «record» index from to whole language places top found₀ n₀ found n = to - n
+decreases-loop language «record» index from to whole places top found₀ n₀ found n = to - n
 
 read-requires : tie.Need-read-requires invariant-loop decreases-loop
 read-requires c κs = search rules

@@ -4,10 +4,10 @@ use Rattle.show_record.proofs.print_items.Statement.{statement}
 use Rattle.show_record.proofs.print_items.Tie as tie
 
 abbrev invariant-loop : tie.invariant-loop
-invariant-loop look «record» from to whole index₀ index = Unit {0}
+invariant-loop language «record» from to whole index₀ index = Unit {0}
 
 abbrev decreases-loop : tie.decreases-loop
-decreases-loop look «record» from to whole index₀ index = 64 - index
+decreases-loop language «record» from to whole index₀ index = 64 - index
 
 loop-holds : tie.Need-loop-init invariant-loop decreases-loop
 loop-holds c = search rules

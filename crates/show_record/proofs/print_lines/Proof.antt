@@ -4,10 +4,10 @@ use Rattle.show_record.proofs.print_lines.Statement.{statement}
 use Rattle.show_record.proofs.print_lines.Tie as tie
 
 abbrev invariant-loop : tie.invariant-loop
-invariant-loop look «record» places whole language next₀ n₀ next n = Unit {0}
+invariant-loop language «record» places whole next₀ n₀ next n = Unit {0}
 
 abbrev decreases-loop : tie.decreases-loop
-decreases-loop look «record» places whole language next₀ n₀ next n = 43 - n
+decreases-loop language «record» places whole next₀ n₀ next n = 43 - n
 
 loop-holds : tie.Need-loop-init invariant-loop decreases-loop
 loop-holds c = search rules

@@ -1,13 +1,13 @@
--- `show_record::print_path`: each turn leaves fewer depths.
+-- `show_record::print_path`: each turn leaves fewer enclosers.
 use Rattle.std.proofs.Common.{◌-◌, rules}
 use Rattle.show_record.proofs.print_path.Statement.{statement}
 use Rattle.show_record.proofs.print_path.Tie as tie
 
 abbrev invariant-loop : tie.invariant-loop
-invariant-loop look line begin row name printed₀ depth₀ printed depth = Unit {0}
+invariant-loop language line row name depth₀ t6 depth = Unit {0}
 
 abbrev decreases-loop : tie.decreases-loop
-decreases-loop look line begin row name printed₀ depth₀ printed depth = row.1 - depth
+decreases-loop language line row name depth₀ t6 depth = row.1 - depth
 
 row-on-requires : tie.Need-row-on-requires invariant-loop decreases-loop
 row-on-requires c κs = search rules
@@ -18,6 +18,12 @@ loop-holds c = search rules
 print-encloser-requires : tie.Need-print-encloser-requires invariant-loop decreases-loop
 print-encloser-requires c κs = search rules
 
+slice-aggregate-print-text : tie.Need-slice-aggregate-print-text invariant-loop decreases-loop
+slice-aggregate-print-text c = search rules
+
+print-text-requires : tie.Need-print-text-requires invariant-loop decreases-loop
+print-text-requires c κs = search rules
+
 add-depth : tie.Need-overflow-add-depth invariant-loop decreases-loop
 add-depth c = search rules
 
@@ -27,8 +33,8 @@ loop-less c = search rules
 loop-again : tie.Need-loop-preserved invariant-loop decreases-loop
 loop-again c = search rules
 
-print-on-path-requires : tie.Need-print-on-path-requires invariant-loop decreases-loop
-print-on-path-requires c κs = search rules
+print-name-requires : tie.Need-print-name-requires invariant-loop decreases-loop
+print-name-requires c κs = search rules
 
 returns : tie.Need-returns invariant-loop decreases-loop
 returns c = search rules
@@ -42,8 +48,10 @@ print-path-spec =
     row-on-requires
     loop-holds
     print-encloser-requires
+    slice-aggregate-print-text
+    print-text-requires
     add-depth
     loop-less
     loop-again
-    print-on-path-requires
+    print-name-requires
     returns)

@@ -10,7 +10,6 @@ use Rattle.std.proofs.Math.ListN.{length, length-append}
 use Rattle.std.proofs.Math.Seq.{slice}
 use borrow.Author.Tests.{lt-ltb, le-ltb}
 use Rattle.terms.specs.declared.Field.{Field}
-use Rattle.terms.specs.declared.KnownName.{KnownName}
 use Rattle.terms.specs.Numbers.{left_over}
 use Rattle.terms.specs.Answer.{Res, good, Got, pick, same}
 use Rattle.terms.specs.Laws.Answer.{never, clash, good_inj, test, is_true, pick_yes, pick_no, by_bind, by_need, by_have, same_eq}
@@ -68,10 +67,10 @@ unfolding encode sheet
 then-out Record m r v w = refl
 then-out Sheet m r v w = refl
 
-known_out_lem : (to : Side) (f : KnownName) (k : Known) (v : Part (known f k)) → known_out to k ≡ bytes_of_part to (known f k) v
+known_out_lem : (to : Side) (k : Known) (v : Part (known k)) → known_out to k ≡ bytes_of_part to (known k) v
 unfolding known_out encode sheet
-known_out_lem Record f k v = refl
-known_out_lem Sheet f k v = refl
+known_out_lem Record k v = refl
+known_out_lem Sheet k v = refl
 
 one_out : (to : Side) (f : Field) (i : Item) (v : Value i) → bytes_of to i v ≡ bytes_of_part to (one f i) v
 unfolding encode sheet
@@ -167,11 +166,11 @@ module _ (s : List ℕ) (to : Side) where
   unfolding present_at
   present-at t p e = refl
 
-  known_moved : (f : KnownName) (k : Known) (p e : ℕ) (x : Got (Part (known f k))) → read_part (known f k) (slice p e s) p ≡ good x → move_known Record to k s p e ≡ (x.after, bytes_of_part to (known f k) x.value)
+  known_moved : (k : Known) (p e : ℕ) (x : Got (Part (known k))) → read_part (known k) (slice p e s) p ≡ good x → move_known Record to k s p e ≡ (x.after, bytes_of_part to (known k) x.value)
   unfolding move_known known_at read
-  known_moved f k p e x h =
+  known_moved k p e x h =
       by_bind _ _ _ h λ c e₁ e₂.
-      rw (← good_inj e₂) (pair (ap (λ (q : ℕ × ℕ). q.1) (leaf_span (only k) p e c e₁)) (known_out_lem to f k tt))
+      rw (← good_inj e₂) (pair (ap (λ (q : ℕ × ℕ). q.1) (leaf_span (only k) p e c e₁)) (known_out_lem to k tt))
 
   flag_moved : (f : Field) (p e : ℕ) → p ≤ e → e ≤ length s → (x : Got Bool) → read_flag (slice p e s) p ≡ good x → move_flag Record to s p e ≡ (x.after, bytes_of_part to (flag f) x.value)
   unfolding move_flag flag_at read_flag
@@ -245,7 +244,7 @@ module _ (s : List ℕ) (to : Side) where
         rw (← good_inj e₄, w, moves_read r a.after e o.2 es y (rw o.0 at e₃)) (then-out to m r a.value y)
 
     move_part_read : (m : Member) (p e : ℕ) → p ≤ e → e ≤ length s → (x : Got (Part m)) → read_part m (slice p e s) p ≡ good x → move_part Record to m s p e ≡ (x.after, bytes_of_part to m x.value)
-    move_part_read (known f k) p e pe es x h = known_moved f k p e x h
+    move_part_read (known k) p e pe es x h = known_moved k p e x h
     move_part_read (one f i) p e pe es x h = move_read i p e pe es x h ∙ pair refl (one_out to f i x.value)
     move_part_read (maybe f i) p e pe es x h =
         by_pick (begins (tag_of i) (slice p e s)) _ _ x h
@@ -344,9 +343,9 @@ module _ (s : List ℕ) (to : Side) where
   unfolding present_at
   option-opened t p e n h = rw h
 
-  known_filled : (f : KnownName) (k : Known) (p e : ℕ) → move_known Sheet to k s p e ≡ (p, bytes_of_part to (known f k) tt)
+  known_filled : (k : Known) (p e : ℕ) → move_known Sheet to k s p e ≡ (p, bytes_of_part to (known k) tt)
   unfolding move_known known_at
-  known_filled f k p e = pair refl (known_out_lem to f k tt)
+  known_filled k p e = pair refl (known_out_lem to k tt)
 
   module _ {A : Type 0} (f : ℕ → Moved) (g : List ℕ → ℕ → Res (Got A)) (u : A → List ℕ) (z : ℕ)
       (on : (p : ℕ) → p ≤ z → (x : Got A) → g (slice p z s) p ≡ good x → Onward s p z x.rest x.after)
@@ -389,7 +388,7 @@ module _ (s : List ℕ) (to : Side) where
         rw (← good_inj e₄, w, moves_fill r a.after e o.2 es y (rw o.0 at e₃)) (pair refl (then-out to m r a.value y.value))
 
     move_part_fill : (m : Member) (p e : ℕ) → p ≤ e → e ≤ length s → (x : Got (Part m)) → fill_part m (slice p e s) p ≡ good x → move_part Sheet to m s p e ≡ (x.after, bytes_of_part to m x.value)
-    move_part_fill (known f k) p e pe es x h = rw (← good_inj h) (known_filled f k p e)
+    move_part_fill (known k) p e pe es x h = rw (← good_inj h) (known_filled k p e)
     move_part_fill (one f i) p e pe es x h = move_fill i p e pe es x h ∙ pair refl (one_out to f i x.value)
     move_part_fill (maybe f i) p e pe es x h =
         by_bind _ _ _ h λ n e₁ e₂.

@@ -1,11 +1,9 @@
 -- The numbers of the names: each is below their count, each number below that is one name's, and a name is that of its number. Assumes nothing.
 use Rattle.std.specs.Prelude.{◌≡◌, refl, ℕ, suc, zero, ◌+◌, ◌<◌, Bool, true, ◌&&◌, List, [], ◌∷◌, length, get_or, T, eqb}
 use Rattle.std.proofs.Common.{◌∙◌, arith, eqb→eq, lit<}
-use Rattle.terms.specs.declared.KnownName.{KnownName}
-use Rattle.terms.specs.declared.KnownName.TheVariants.{HeaderName, SealVersion, SignatureVersion}
 use Rattle.terms.specs.declared.Field.{Field}
 use Rattle.terms.specs.declared.Field.TheVariants.{SealInformation, Header, Vendor, SealId, Property, SealType, SealName, ListKind, CertificateList, ListedCertificate, ListedEntry, ListedType, ListedDigest, Created, Start, End, Picture, PictureType, PictureData, Width, Height, SealCustomData, SealCustomItem, SealCustomId, SealCustomCritical, SealCustomValue, MakerCertificate, SealAlgorithm, SealSignedValue, SignedPart, Seal, SigningTime, OriginalDigest, PropertyText, SignedCustomData, SignedCustomItem, SignedCustomId, SignedCustomCritical, SignedCustomValue, SignerCertificate, SignatureAlgorithm, SignatureValue, Stamp}
-use Rattle.terms.specs.Names.{code, names_count, names, name_of, known_code, known_name}
+use Rattle.terms.specs.Names.{code, names_count, names, name_of}
 use Rattle.terms.specs.Laws.Answer.{and_l, and_r}
 
 pub code_below : (f : Field) → code f < names_count
@@ -114,8 +112,3 @@ name_code SignerCertificate = refl
 name_code SignatureAlgorithm = refl
 name_code SignatureValue = refl
 name_code Stamp = refl
-
-pub known_name-code : (x : KnownName) → known_name (known_code x) ≡ x
-known_name-code HeaderName = refl
-known_name-code SealVersion = refl
-known_name-code SignatureVersion = refl

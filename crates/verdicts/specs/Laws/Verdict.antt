@@ -1,13 +1,13 @@
 -- The answer is the first failing row of any table, and the notice goes with it as document 01 says. Assumes nothing.
 use Rattle.std.specs.Prelude.{◌≡◌, ◌⊎◌, ℕ, Bool, not, ◌&&◌, ◌||◌, T, leb, eqb}
 use Rattle.std.proofs.Math.Path.{refl}
-use Rattle.std.proofs.Common.{sym, subst, inl, inr, eq-eqb}
+use Rattle.std.proofs.Common.{sym, subst, inl, inr}
 use Rattle.std.proofs.Math.Bool.{true, false}
 use Rattle.std.proofs.Math.Option.{Option, none, some}
-use mathlib.Core.List.{List, [], ◌∷◌, map}
-use Rattle.terms.specs.Numbers.{one_of, valid, unreal_time, outside_period, stamp_bad, signer_out_at_stamp}
+use mathlib.Core.List.{List, [], ◌∷◌}
+use Rattle.terms.specs.Numbers.{valid, unreal_time, outside_period, stamp_bad, signer_out_at_stamp}
 use Rattle.terms.specs.Answer.{good, fault, every, pick}
-use Rattle.terms.specs.Laws.Answer.{never, and_l, and_r, or_r, pick_yes, pick_no}
+use Rattle.terms.specs.Laws.Answer.{never, and_l, and_r, pick_yes, pick_no}
 use Rattle.layouts.specs.Layout.{Values, All}
 use Rattle.layouts.specs.Fields.{first}
 use Rattle.layouts.specs.Laws.Fields.{None, First, Sought, first-sought, first_holds}
@@ -37,20 +37,6 @@ failing_holds {A} P ss passed x h k = go (first_failing ss passed x) (first-fail
     go : (s : Step A) → FirstFailing ss passed x s → P s
     go s (inl f) = first_holds P (λ y. y.fails x) ss s h f
     go s (inr (n, e)) = subst P (sym e) k
-
--- ---- its number
-
--- the numbers of a table
-abbrev pub table_numbers : Rulebook → List ℕ
-table_numbers b = map (λ s. s.number) (b.passed ∷ b.steps)
-
-own_numbers : {A : Type 0} (ss : List (Step A)) (f : ℕ → Bool) → ((n : ℕ) → T (one_of (map (λ s. s.number) ss) n) → T (f n)) → All (λ s. T (f s.number)) ss
-own_numbers [] f h = tt
-own_numbers (s ∷ ss) f h =
-    (h s.number (rw (eq-eqb s.number s.number refl) tt), own_numbers ss f (λ n t. h n (or_r (eqb n s.number) (one_of (map (λ s. s.number) ss) n) t)))
-
-pub answer-number : (b : Rulebook) (x : Facts) → T (one_of (table_numbers b) (first_failing b.steps b.passed x).number)
-answer-number b x = let a = own_numbers (b.passed ∷ b.steps) (one_of (table_numbers b)) (λ n t. t) in failing_holds (λ s. T (one_of (table_numbers b) s.number)) b.steps b.passed x a.1 a.0
 
 -- ---- the notice, by the number
 

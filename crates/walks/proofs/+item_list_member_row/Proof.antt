@@ -27,7 +27,7 @@ use Rattle.edges.proofs.begins.Reads as begins-reads
 use Rattle.edges.proofs.close.Reads as close-reads
 use Rattle.edges.proofs.past.Reads as past-reads
 use Rattle.answers.proofs.is_content.Reads as is-content-reads
-use Rattle.entries.proofs.known.Reads as known-reads
+use Rattle.leaves.proofs.known.Reads as known-reads
 use Rattle.blames.proofs.blame.Reads as blame-reads
 use Rattle.places.proofs.note.Reads as note-reads
 use Rattle.structures.proofs.build_of.Reads as build-of-reads
@@ -329,9 +329,6 @@ member-known-requires t c κs = search rules
 member-past-requires : (t : ℕ) → member-lts.Need-past-requires (member-c t) (member-at t) member.Post
 member-past-requires t c κs = search rules
 
-member-same-length : (t : ℕ) → member-lts.Need-same-length (member-c t) (member-at t) member.Post
-member-same-length t c = search rules
-
 member-returns-2 : (t : ℕ) → member-lts.Need-returns-2 (member-c t) (member-at t) member.Post
 member-returns-2 t c = search (rules, member-steps)
 
@@ -344,8 +341,8 @@ member-leaf-requires t c κs = search rules
 member-past-requires-2 : (t : ℕ) → member-lts.Need-past-requires-2 (member-c t) (member-at t) member.Post
 member-past-requires-2 t c κs = search rules
 
-member-same-length-2 : (t : ℕ) → member-lts.Need-same-length-2 (member-c t) (member-at t) member.Post
-member-same-length-2 t c = search rules
+member-same-length : (t : ℕ) → member-lts.Need-same-length (member-c t) (member-at t) member.Post
+member-same-length t c = search rules
 
 member-returns-3 : (t : ℕ) → member-lts.Need-returns-3 (member-c t) (member-at t) member.Post
 member-returns-3 t c = search (rules, member-steps)
@@ -356,8 +353,8 @@ member-enum-known-m-3 t c = search rules
 member-item-requires : (t : ℕ) → member-lts.Need-item-requires (member-c t) (member-at t) member.Post
 member-item-requires t c κs = search (rules, smaller)
 
-member-same-length-3 : (t : ℕ) → member-lts.Need-same-length-3 (member-c t) (member-at t) member.Post
-member-same-length-3 t c = search rules
+member-same-length-2 : (t : ℕ) → member-lts.Need-same-length-2 (member-c t) (member-at t) member.Post
+member-same-length-2 t c = search rules
 
 member-returns-4 : (t : ℕ) → member-lts.Need-returns-4 (member-c t) (member-at t) member.Post
 member-returns-4 t c = search (rules, member-steps)
@@ -374,8 +371,8 @@ member-begins-requires t c κs = search rules
 member-item-requires-2 : (t : ℕ) → member-lts.Need-item-requires-2 (member-c t) (member-at t) member.Post
 member-item-requires-2 t c κs = search (rules, smaller)
 
-member-same-length-4 : (t : ℕ) → member-lts.Need-same-length-4 (member-c t) (member-at t) member.Post
-member-same-length-4 t c = search rules
+member-same-length-3 : (t : ℕ) → member-lts.Need-same-length-3 (member-c t) (member-at t) member.Post
+member-same-length-3 t c = search rules
 
 member-returns-5 : (t : ℕ) → member-lts.Need-returns-5 (member-c t) (member-at t) member.Post
 member-returns-5 t c = search (rules, member-steps)
@@ -395,8 +392,8 @@ member-leaf-requires-2 t c κs = search rules
 member-past-requires-3 : (t : ℕ) → member-lts.Need-past-requires-3 (member-c t) (member-at t) member.Post
 member-past-requires-3 t c κs = search rules
 
-member-same-length-5 : (t : ℕ) → member-lts.Need-same-length-5 (member-c t) (member-at t) member.Post
-member-same-length-5 t c = search rules
+member-same-length-4 : (t : ℕ) → member-lts.Need-same-length-4 (member-c t) (member-at t) member.Post
+member-same-length-4 t c = search rules
 
 member-returns-7 : (t : ℕ) → member-lts.Need-returns-7 (member-c t) (member-at t) member.Post
 member-returns-7 t c = search (rules, member-steps)
@@ -419,8 +416,8 @@ member-enum-told-2 t c = search rules
 member-past-requires-4 : (t : ℕ) → member-lts.Need-past-requires-4 (member-c t) (member-at t) member.Post
 member-past-requires-4 t c κs = search rules
 
-member-same-length-6 : (t : ℕ) → member-lts.Need-same-length-6 (member-c t) (member-at t) member.Post
-member-same-length-6 t c = search rules
+member-same-length-5 : (t : ℕ) → member-lts.Need-same-length-5 (member-c t) (member-at t) member.Post
+member-same-length-5 t c = search rules
 
 member-returns-9 : (t : ℕ) → member-lts.Need-returns-9 (member-c t) (member-at t) member.Post
 member-returns-9 t c = search (rules, member-steps)
@@ -431,8 +428,8 @@ member-is-content-requires t c κs = search rules
 member-item-requires-3 : (t : ℕ) → member-lts.Need-item-requires-3 (member-c t) (member-at t) member.Post
 member-item-requires-3 t c κs = search (rules, smaller)
 
-member-same-length-7 : (t : ℕ) → member-lts.Need-same-length-7 (member-c t) (member-at t) member.Post
-member-same-length-7 t c = search rules
+member-same-length-6 : (t : ℕ) → member-lts.Need-same-length-6 (member-c t) (member-at t) member.Post
+member-same-length-6 t c = search rules
 
 member-returns-10 : (t : ℕ) → member-lts.Need-returns-10 (member-c t) (member-at t) member.Post
 member-returns-10 t c = search (rules, member-steps)
@@ -440,8 +437,8 @@ member-returns-10 t c = search (rules, member-steps)
 member-item-requires-4 : (t : ℕ) → member-lts.Need-item-requires-4 (member-c t) (member-at t) member.Post
 member-item-requires-4 t c κs = search (rules, smaller)
 
-member-same-length-8 : (t : ℕ) → member-lts.Need-same-length-8 (member-c t) (member-at t) member.Post
-member-same-length-8 t c = search rules
+member-same-length-7 : (t : ℕ) → member-lts.Need-same-length-7 (member-c t) (member-at t) member.Post
+member-same-length-7 t c = search rules
 
 member-returns-11 : (t : ℕ) → member-lts.Need-returns-11 (member-c t) (member-at t) member.Post
 member-returns-11 t c = search (rules, member-steps)
@@ -586,29 +583,28 @@ pub +item-list-member-row-spec : {M : Type 1} → statement M
     (member-enum-known-m t)
     (member-known-requires t)
     (member-past-requires t)
-    (member-same-length t)
     (member-returns-2 t)
     (member-enum-known-m-2 t)
     (member-leaf-requires t)
     (member-past-requires-2 t)
-    (member-same-length-2 t)
+    (member-same-length t)
     (member-returns-3 t)
     (member-enum-known-m-3 t)
     (member-item-requires t)
-    (member-same-length-3 t)
+    (member-same-length-2 t)
     (member-returns-4 t)
     (member-enum-known-m-4 t)
     (member-tag-of-requires t)
     (member-begins-requires t)
     (member-item-requires-2 t)
-    (member-same-length-4 t)
+    (member-same-length-3 t)
     (member-returns-5 t)
     (member-returns-6 t)
     (member-enum-known-m-5 t)
     (member-begins-requires-2 t)
     (member-leaf-requires-2 t)
     (member-past-requires-3 t)
-    (member-same-length-5 t)
+    (member-same-length-4 t)
     (member-returns-7 t)
     (member-returns-8 t)
     (member-enum-known-m-6 t)
@@ -616,14 +612,14 @@ pub +item-list-member-row-spec : {M : Type 1} → statement M
     (member-enum-known-h t)
     (member-enum-told-2 t)
     (member-past-requires-4 t)
-    (member-same-length-6 t)
+    (member-same-length-5 t)
     (member-returns-9 t)
     (member-is-content-requires t)
     (member-item-requires-3 t)
-    (member-same-length-7 t)
+    (member-same-length-6 t)
     (member-returns-10 t)
     (member-item-requires-4 t)
-    (member-same-length-8 t)
+    (member-same-length-7 t)
     (member-returns-11 t))
     λ t. row-lts.spec (row-c t)
     (row_at t)

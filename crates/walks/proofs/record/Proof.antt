@@ -19,9 +19,6 @@ past-requires c κs = search rules
 returns : tie.Need-returns
 returns c = search (rules, record_refused)
 
-wanted-index-requires : tie.Need-wanted-index-requires
-wanted-index-requires c κs = search rules
-
 row-requires : tie.Need-row-requires
 row-requires c κs = search rules
 
@@ -40,7 +37,6 @@ record-spec =
     enum_told
     past-requires
     returns
-    wanted-index-requires
     row-requires
     same_length
     returns-2)

@@ -1,4 +1,0 @@
-pub mod Words
-pub mod Labels
-pub mod Wording
-pub mod Laws
