@@ -1,4 +1,6 @@
 // What is said of a content: the item or its refusal, and whether it is the content that is named.
+#![tactic(auto)]
+
 ghost use Rattle.std.specs.Prelude.{◌≡◌};
 ghost use Rattle.std.proofs.Math.Seq.{slice};
 ghost use Rattle.layouts.specs.Scan.{judged_at};

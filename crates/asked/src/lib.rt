@@ -1,4 +1,6 @@
 // What is asked with numbers: the record by its kind, a field by its number.
+#![tactic(auto)]
+
 ghost use Rattle.std.specs.Prelude.{◌≡◌};
 ghost use Rattle.records.specs.declared.Record.TheVariants.{Seal, Signature};
 ghost use Rattle.records.specs.Handing.{told_part, told_number, told_is, told_items};

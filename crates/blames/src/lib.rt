@@ -1,4 +1,6 @@
 // The name of the field that was refused, behind the table of places.
+#![tactic(auto)]
+
 ghost use Rattle.std.specs.Prelude.{◌≡◌};
 ghost use Rattle.layouts.specs.Marks.{blamed};
 

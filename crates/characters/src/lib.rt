@@ -1,4 +1,6 @@
 // The characters of one byte: whether a content is text of an IA5String or of a PrintableString.
+#![tactic(auto)]
+
 ghost use Rattle.std.specs.Prelude.{◌≡◌, max};
 ghost use Rattle.contents.specs.Text.{starts, is_text, ia5 as ia5Characters, printable as printableCharacters};
 ghost use Rattle.characters.specs.Text.{largest_of};

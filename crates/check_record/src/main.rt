@@ -1,4 +1,6 @@
 // Reads one signature record from standard input and prints one line: ACCEPTED and its length, or REFUSED, number, place.
+#![tactic(auto)]
+
 use layouts::Outcome;
 use libc::STDOUT_FILENO;
 use streams::Input;

@@ -1,4 +1,6 @@
 // Answers cases from standard input, each the four bytes of its size and its bytes, with a line for each; second/README.md has their form.
+#![tactic(auto)]
+
 ghost use Rattle.std.specs.Prelude.{◌<◌};
 
 use layouts::Outcome;

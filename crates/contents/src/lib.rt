@@ -1,4 +1,6 @@
 // What a content's rule says: it is inside the rules, or the refusal's number and place.
+#![tactic(auto)]
+
 #[derive(Drop)]
 pub enum Checked {
     Fine,

@@ -1,4 +1,6 @@
 // The bytes of a slice, stored in a destination as far as it has room.
+#![tactic(auto)]
+
 ghost use Rattle.std.specs.Prelude.{◌≡◌, true, length};
 ghost use Rattle.stores.specs.Store.{puts, room_for};
 

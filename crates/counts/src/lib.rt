@@ -1,4 +1,6 @@
 // The counts of a sheet by positions: a count, that of a list, and the bytes of a section by theirs.
+#![tactic(auto)]
+
 ghost use Rattle.std.specs.Prelude.{◌≡◌, ◌≤◌, ◌<◌, length, drop};
 ghost use Rattle.std.proofs.Math.Option.{some};
 ghost use Rattle.terms.specs.Digits.{leading};

@@ -58,7 +58,7 @@ module _ (s z : Bor (List ℕ)) where
   nothing : z.ref_ptr ≡ s.ref_ptr → z.now ≡ [] → PartOf s z (0, 0)
   nothing h k = record { lies = h ∙ ap (λ (n : ℕ). (s.ref_ptr.0, n)) (omega arith); holds = k }
 
-  module _ (h : z.ptr ≡ s.ptr) (k : z.now ≡ []) where
+  module _ (h : z.ref_ptr ≡ s.ref_ptr) (k : z.now ≡ []) where
     -- nothing is cut where the start or the end lies past the record
     pub cut-late : (a l : ℕ) → length s.now < a → PartOf s z (within (length s.now) (a, l))
     cut-late a l g = rw (within_no (length s.now) a l (omega arith)) (nothing h k)
@@ -68,10 +68,10 @@ module _ (s z : Bor (List ℕ)) where
 
   module _ (a l : ℕ) where
     -- what lies inside is cut
-    pub cut_inside : a ≤ length s.now → l ≤ length s.now - a → z.ptr ≡ (s.ptr.0, a + s.ptr.1) → z.now ≡ take (a + l - a) (drop a s.now) → PartOf s z (within (length s.now) (a, l))
+    pub cut_inside : a ≤ length s.now → l ≤ length s.now - a → z.ref_ptr ≡ (s.ref_ptr.0, a + s.ref_ptr.1) → z.now ≡ take (a + l - a) (drop a s.now) → PartOf s z (within (length s.now) (a, l))
     cut_inside g g' h k =
         let e : a + l - a ≡ l = omega arith in
-        rw (within-yes (length s.now) a l (omega arith)) (record { lies = h ∙ ap (λ (n : ℕ). (s.ptr.0, n)) (omega arith); holds = rw e at k })
+        rw (within-yes (length s.now) a l (omega arith)) (record { lies = h ∙ ap (λ (n : ℕ). (s.ref_ptr.0, n)) (omega arith); holds = rw e at k })
 
     pub cut-there : (p : Part) → p ≡ There a l → PartOf s z (within (length s.now) (a, l)) → PartOf s z (within (length s.now) (span_of p))
     cut-there p e h = rw e h

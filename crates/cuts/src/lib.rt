@@ -1,4 +1,6 @@
 // What a table of places has under a name, and the part of a record that an answer names.
+#![tactic(auto)]
+
 ghost use Rattle.std.specs.Prelude.{◌≡◌, length as size};
 ghost use Rattle.records.specs.Part.{PartOf};
 ghost use Rattle.cuts.specs.Handed.{part_under, span_of, within};

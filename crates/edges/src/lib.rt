@@ -1,4 +1,6 @@
 // What stands around an item: whether one begins here, where what follows it starts, and what is left over.
+#![tactic(auto)]
+
 ghost use Rattle.std.specs.Prelude.{◌≡◌};
 ghost use Rattle.heads.specs.Scan.{past_of, begins_at, close_at};
 ghost use Rattle.tags.specs.Tag.{tag_byte};

@@ -1,4 +1,6 @@
 // The static library: what the crates answer, for C, with numbers and slices of numbers only.
+#![tactic(auto)]
+
 ghost use Rattle.std.specs.Prelude.{◌≡◌};
 ghost use Rattle.records.specs.Record.{seal, signature};
 ghost use Rattle.records.specs.Handing.{record_answer, fill_answer, fill_after, write_answer, write_after};

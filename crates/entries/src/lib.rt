@@ -1,4 +1,6 @@
 // A primitive item that is read and noted, also where it is refused.
+#![tactic(auto)]
+
 ghost use Rattle.std.specs.Prelude.{◌≡◌};
 ghost use Rattle.primitives.specs.Primitive.{leaf_of};
 ghost use Rattle.entries.specs.Entry.{leaf_walk};

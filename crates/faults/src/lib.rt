@@ -1,4 +1,6 @@
 // What a refusal is about: reading a seal or a signature record, with the field that the first fault was found in and the fields before it.
+#![tactic(auto)]
+
 ghost use Rattle.std.specs.Prelude.{◌≡◌, ◌<◌, length, take};
 ghost use Rattle.terms.specs.Names.{name_of};
 ghost use Rattle.terms.specs.Numbers.{largest_record};

@@ -1,5 +1,7 @@
 // Handing out by name: where a field lies in the lent record, and the part of the record that it is.
 // What is cut by a table of places, or by an answer, is passed on from `cuts`.
+#![tactic(auto)]
+
 ghost use Rattle.std.specs.Prelude.{◌≡◌};
 ghost use Rattle.layouts.specs.Fields.{is_field};
 ghost use Rattle.records.specs.Handing.{layout_of, seek, tell, told_place, handed_out, told_part};

@@ -1,4 +1,6 @@
 // Which rows of numbers are findings.
+#![tactic(auto)]
+
 ghost use Rattle.std.specs.Prelude.{◌≡◌};
 ghost use Rattle.finding_rows.specs.Row.{at, is_flag, are_flags, are_findings};
 

@@ -1,4 +1,6 @@
 // What the findings say at a moment.
+#![tactic(auto)]
+
 ghost use Rattle.std.specs.Prelude.{◌≡◌};
 ghost use Rattle.moments.specs.Moment.{moment_in};
 ghost use Rattle.verdicts.specs.Findings.{between, within_dates, revoked_by, in_force, sound};

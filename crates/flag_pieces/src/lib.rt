@@ -1,4 +1,6 @@
 // A flag, from a source to a destination.
+#![tactic(auto)]
+
 ghost use Rattle.std.specs.Prelude.{◌≡◌};
 ghost use Rattle.sides.specs.Move.{flag_out, move_flag};
 ghost use Rattle.stores.specs.Store.{puts};

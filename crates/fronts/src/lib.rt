@@ -1,4 +1,6 @@
 // What stands before a value or before items, in a destination: in a record the head of an item, in a sheet a count or a mark.
+#![tactic(auto)]
+
 ghost use Rattle.std.specs.Prelude.{◌≡◌, [], ◌∷◌, ◌%◌};
 ghost use Rattle.tags.specs.Tag.{tag_byte};
 ghost use Rattle.heads.specs.Head.{forms, octets};

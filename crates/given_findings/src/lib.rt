@@ -1,4 +1,6 @@
 // The findings from 19 numbers in a row.
+#![tactic(auto)]
+
 ghost use Rattle.std.specs.Prelude.{◌≡◌, ◌<◌};
 ghost use Rattle.finding_rows.specs.Row.{numbers_count};
 ghost use Rattle.given_findings.specs.Given.{says, revocation_at, certificate_at, stamp_at, findings_in};

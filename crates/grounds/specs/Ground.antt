@@ -21,7 +21,7 @@ use Rattle.grounds.specs.declared.Ground.TheVariants.{Read, Refused}
 abbrev pub Rests : Facts → Grounds → Type 0
 Rests x g =
     (moment_in g.start ≡ time_of Start x) × (moment_in g.end ≡ time_of End x) × (moment_in g.signing ≡ signing x)
-    × (g.listed ≡ signer_listed x) × (g.alike ≡ same x.originalDigest (the OriginalDigest x)) × (g.stamped ≡ stamped x)
+    × (g.listed ≡ signer_listed x) × (g.alike ≡ same x.original_digest (the OriginalDigest x)) × (g.stamped ≡ stamped x)
 
 -- an accepted record's grounds, or the record's refusal
 abbrev pub GroundOf : (r : Members) → List ℕ → List ℕ → List ℕ → Ground → Type 0

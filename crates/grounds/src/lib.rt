@@ -1,4 +1,6 @@
 // What a verdict rests on in a record, from one reading of it.
+#![tactic(auto)]
+
 ghost use Rattle.std.specs.Prelude.{◌≡◌};
 ghost use Rattle.terms.specs.declared.Field.TheVariants.{OriginalDigest, Stamp};
 ghost use Rattle.terms.specs.Answer.{same};

@@ -1,4 +1,6 @@
 // An item at a position: where its content starts and where it stops, or the refusal's number and place.
+#![tactic(auto)]
+
 #[derive(Drop)]
 pub enum Seen {
     Item { start: usize, end: usize },

@@ -1,4 +1,6 @@
 // The primitive items of the rules by name: how many bytes of each stand before its value, and which are numbers of a sheet.
+#![tactic(auto)]
+
 ghost use Rattle.std.specs.Prelude.{◌≡◌, ◌≤◌, length};
 ghost use Rattle.primitives.specs.Primitive.{leaf_of, is_number};
 

@@ -1,4 +1,6 @@
 // The rule of identifiers: an item's content is the window from `a` to `z` of the slice, its tag stands at `at`.
+#![tactic(auto)]
+
 ghost use Rattle.std.specs.Prelude.{◌≡◌, true, ◌&&◌, eqb};
 ghost use Rattle.contents.specs.Text.{parts_from, is_identifier};
 ghost use Rattle.contents.specs.Rules.{identifier_rule};

@@ -1,4 +1,6 @@
 // An INTEGER by its rule: a content that is a number, and a number that is allowed.
+#![tactic(auto)]
+
 ghost use Rattle.std.specs.Prelude.{◌≡◌};
 ghost use Rattle.contents.specs.Integer.{from_one};
 ghost use Rattle.contents.specs.Leaves.{known_rule, version as versionItem};

@@ -1,4 +1,6 @@
 // An item's head: its tag and its length, and where its content lies.
+#![tactic(auto)]
+
 ghost use Rattle.std.specs.Prelude.{◌≡◌, ◌+◌, ◌≤◌, ◌<◌, length};
 ghost use Rattle.items.specs.Scan.{length_at, opening_at};
 ghost use Rattle.tags.specs.Tag.{tag_byte};

@@ -1,4 +1,6 @@
 // The verdicts on a seal and on a signature record: the number of the first step that fails, and the notice.
+#![tactic(auto)]
+
 ghost use Rattle.std.specs.Prelude.{◌≡◌};
 ghost use Rattle.verdicts.specs.Verdict.{verdict, signature_rules, seal_rules};
 

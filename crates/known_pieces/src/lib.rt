@@ -1,4 +1,6 @@
 // A known member, from a source to a destination.
+#![tactic(auto)]
+
 ghost use Rattle.std.specs.Prelude.{◌≡◌};
 ghost use Rattle.primitives.specs.Primitive.{known_of};
 ghost use Rattle.sides.specs.Move.{known_out, move_known};

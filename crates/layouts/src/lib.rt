@@ -1,3 +1,5 @@
+#![tactic(auto)]
+
 use terms::Field;
 
 // What a whole reading, filling or writing answers: how many bytes it took or wrote, or the refusal's number and place.

@@ -1,4 +1,6 @@
 // Primitive items by name: the head, then the content's rule.
+#![tactic(auto)]
+
 ghost use Rattle.std.specs.Prelude.{◌≡◌};
 ghost use Rattle.contents.specs.Leaves.{rule_of, only};
 ghost use Rattle.contents.specs.Scan.{checked_at, content_at};

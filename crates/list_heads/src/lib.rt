@@ -1,4 +1,6 @@
 // The head of a list by positions.
+#![tactic(auto)]
+
 ghost use Rattle.std.specs.Prelude.{◌≡◌};
 ghost use Rattle.tags.specs.Tag.{tag_byte};
 ghost use Rattle.list_heads.specs.Head.{list_head_at};

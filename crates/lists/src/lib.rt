@@ -1,4 +1,6 @@
 // Of the lists of a record: how many items one has, and whether an item is critical.
+#![tactic(auto)]
+
 ghost use Rattle.std.specs.Prelude.{◌≡◌};
 ghost use Rattle.terms.specs.declared.Field.TheVariants.{CertificateList, SealCustomData, SealCustomCritical, SignedCustomData, SignedCustomCritical};
 ghost use Rattle.terms.specs.Answer.{told_one};

@@ -1,4 +1,6 @@
 // What stands under a name in a table of places.
+#![tactic(auto)]
+
 ghost use Rattle.std.specs.Prelude.{◌≡◌, not, [], ◌∷◌, get_or, drop, eqb};
 ghost use Rattle.layouts.specs.Places.{slot, under as numbersUnder};
 

@@ -1,5 +1,7 @@
 // The matching entry of a record's certificate list: the first that equals given bytes, a certificate where the list's kind is 1, else a digest.
 // What is looked for by a table of places is passed on from `searches`.
+#![tactic(auto)]
+
 ghost use Rattle.std.specs.Prelude.{◌≡◌};
 ghost use Rattle.records.specs.Handing.{layout_of, match_in, match_answer, handed_out, told_part};
 ghost use Rattle.records.specs.Part.{PartOf};

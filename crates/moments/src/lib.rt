@@ -1,4 +1,6 @@
 // Moments: of a record's time and of a finding's, and which of two is not later. Nothing else compares times.
+#![tactic(auto)]
+
 ghost use Rattle.std.specs.Prelude.{◌≡◌};
 ghost use Rattle.contents.specs.Time.{not_later, moment_of, moment_at};
 ghost use Rattle.moments.specs.Moment.{moment_in};

@@ -74,38 +74,38 @@ member_size m = 6 * size_of m
 module _ (x : Structure) (k : Build) (t : Tag) (l : layout_of x ≡ item_of k) where
   module _ (m : Row) (i : k ≡ build.Node t m) where
     pub node_holds : held_size x < item_size x
-    node_holds = let a = table.node-less x k t l m i in omega arith
+    node_holds = let a = table.node_less x k t l m i in omega arith
 
     pub node_less : row_size m < content_size x
-    node_less = let a = table.node-less x k t l m i in omega arith
+    node_less = let a = table.node_less x k t l m i in omega arith
 
   module _ (o : Bool) (n : ℕ) (f : Field) (u : Structure) (i : k ≡ build.List t o n f u) where
     pub list_holds : held_size x < item_size x
-    list_holds = let a = table.list-less x k t l o n f u i in omega arith
+    list_holds = let a = table.list_less x k t l o n f u i in omega arith
 
     pub list_less : list_size u < content_size x
-    list_less = let a = table.list-less x k t l o n f u i in omega arith
+    list_less = let a = table.list_less x k t l o n f u i in omega arith
 
   module _ (u : Structure) (i : k ≡ build.Wrap t u) where
     pub wrap_holds : held_size x < item_size x
-    wrap_holds = let a = table.wrap-less x k t l u i in omega arith
+    wrap_holds = let a = table.wrap_less x k t l u i in omega arith
 
     pub wrap_less : item_size u < content_size x
-    wrap_less = let a = table.wrap-less x k t l u i in omega arith
+    wrap_less = let a = table.wrap_less x k t l u i in omega arith
 
 -- what a member holds is smaller
 module _ (m : Member) where
   pub part_less : (f : Field) (x : Structure) → m ≡ member.Part f x → item_size x < member_size m
-  part_less f x i = let a = table.part-less m f x i in omega arith
+  part_less f x i = let a = table.part_less m f x i in omega arith
 
   pub maybe_less : (f : Field) (x : Structure) → m ≡ member.Maybe f x → item_size x < member_size m
-  maybe_less f x i = let a = table.maybe-less m f x i in omega arith
+  maybe_less f x i = let a = table.maybe_less m f x i in omega arith
 
   pub first_less : (f : Field) (l : Primitive) (c : Content) (g : Field) (x y : Structure) → m ≡ member.Choice f l c g x y → item_size x < member_size m
-  first_less f l c g x y i = let a = table.first-less m f l c g x y i in omega arith
+  first_less f l c g x y i = let a = table.first_less m f l c g x y i in omega arith
 
   pub second_less : (f : Field) (l : Primitive) (c : Content) (g : Field) (x y : Structure) → m ≡ member.Choice f l c g x y → item_size y < member_size m
-  second_less f l c g x y i = let a = table.second-less m f l c g x y i in omega arith
+  second_less f l c g x y i = let a = table.second_less m f l c g x y i in omega arith
 
 -- what is measured or stored is the same item, with less to do
 pub holds-stored : (x : Structure) → stored_size x < held_size x
@@ -127,7 +127,7 @@ pub stored_content : (x : Structure) → content_size x < stored_size x
 stored_content x = omega arith
 
 pub member_less : (ms : List Member) (d : Member) (k w : ℕ) → length ms ≡ w → k < w → (x : Row) (t : ℕ) → row_size x ≡ t → row_of x ≡ members_of ms → sizes (rest k ms) ≤ sizes (members_of ms) → member_size (get_or ms k d) < t
-member_less ms d k w n r x t h g f = let a = table.member-smaller ms d k w n r x (suc (sizes (row_of x))) refl g f in omega arith
+member_less ms d k w n r x t h g f = let a = table.member_smaller ms d k w n r x (suc (sizes (row_of x))) refl g f in omega arith
 
 -- ---- what is stored one after another
 

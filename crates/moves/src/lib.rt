@@ -1,5 +1,7 @@
 // One translator over the table of layouts: an item at a position of a source, a record or a sheet, stored in the destination's form. What
 // stands before an item says how much stands in it, so that all of it is measured first; what is found is noted in a table, and is known when it is stored.
+#![tactic(auto)]
+
 ghost use Rattle.std.specs.Prelude.{◌≡◌, true, ◌&&◌, ◌≤◌, ltb, length, get_or, set};
 ghost use Rattle.tags.specs.Tag.{tag_byte};
 ghost use Rattle.structures.specs.Structure.{row_of, layout_of};

@@ -1,4 +1,6 @@
 // The fields by their numbers.
+#![tactic(auto)]
+
 ghost use Rattle.std.specs.Prelude.{◌≡◌};
 ghost use Rattle.terms.specs.Names.{name_of};
 

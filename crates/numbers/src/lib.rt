@@ -1,4 +1,6 @@
 // The number that one to eight two's-complement bytes stand for, and how many bytes a number needs.
+#![tactic(auto)]
+
 ghost use Rattle.std.specs.Prelude.{◌≡◌, ◌≤◌, ◌<◌, ◌^◌, length, get_or, not, eqb};
 ghost use Rattle.contents.specs.Integer.{sign, shortest, value, shrink};
 ghost use Rattle.terms.specs.Digits.{number};

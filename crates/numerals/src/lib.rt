@@ -1,4 +1,6 @@
 // A number as bytes: the eight of its section, and how many its content has.
+#![tactic(auto)]
+
 ghost use Rattle.std.specs.Prelude.{◌≡◌, ◌<◌, ◌^◌, length};
 ghost use Rattle.std.specs.Int.Signed.{mag};
 ghost use Rattle.contents.specs.Integer.{eight as eightOf, content_of};

@@ -1,4 +1,6 @@
 // The rules of octets, bits and the BOOLEAN: an item's content is the window from `a` to `z` of the slice, its tag stands at `at`.
+#![tactic(auto)]
+
 ghost use Rattle.std.specs.Prelude.{◌≡◌, ℕ};
 ghost use Rattle.terms.specs.Answer.{never_empty};
 ghost use Rattle.contents.specs.Rules.{octets_rule, boolean_rule};

@@ -1,4 +1,6 @@
 // A step of the reader as what a caller is told.
+#![tactic(auto)]
+
 ghost use Rattle.std.specs.Prelude.{◌≡◌};
 ghost use Rattle.outcomes.specs.Outcome.{outcome_of};
 

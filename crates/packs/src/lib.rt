@@ -1,4 +1,6 @@
 // Answers as one number each: the paper's number in the lowest 8 bits, and what stands above it.
+#![tactic(auto)]
+
 ghost use Rattle.std.specs.Prelude.{◌≡◌};
 ghost use Rattle.terms.specs.Numbers.{done, absent};
 ghost use Rattle.layouts.specs.Whole.{told_outcome};

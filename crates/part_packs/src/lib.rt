@@ -1,4 +1,6 @@
 // Where a part of a record lies, as two numbers.
+#![tactic(auto)]
+
 ghost use Rattle.std.specs.Prelude.{◌≡◌};
 ghost use Rattle.records.specs.Handing.{told_part};
 ghost use Rattle.packs.specs.Packed.{packed_first, packed_second};

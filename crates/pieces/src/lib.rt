@@ -1,4 +1,6 @@
 // A primitive item, from a source to a destination.
+#![tactic(auto)]
+
 ghost use Rattle.std.specs.Prelude.{◌≡◌, ◌-◌, ◌≤◌, replicate};
 ghost use Rattle.contents.specs.Integer.{sign_of};
 ghost use Rattle.primitives.specs.Primitive.{leaf_of};

@@ -1,4 +1,6 @@
 // A record's table of places in a destination of numbers: filled where the record is accepted, kept where it is refused.
+#![tactic(auto)]
+
 ghost use Rattle.std.specs.Prelude.{◌≡◌};
 ghost use Rattle.layouts.specs.Whole.{told_outcome};
 ghost use Rattle.records.specs.Handing.{layout_of};

@@ -1,5 +1,7 @@
 // The table of places: under each name whether the field is there, where it starts, how many bytes it has, and of a list how many items;
 // after them the index of the item that is wanted of a list. A table that has a number more holds there the name of the field that was refused.
+#![tactic(auto)]
+
 ghost use Rattle.std.specs.Prelude.{◌≡◌, ◌+◌, ◌-◌, ◌<◌, ◌&&◌, length as size, eqb};
 ghost use Rattle.layouts.specs.Places.{table_size, wanted};
 ghost use Rattle.layouts.specs.Laws.Places.{blank as blankTable};

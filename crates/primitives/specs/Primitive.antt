@@ -12,24 +12,24 @@ use Rattle.primitives.specs.declared.Content.{Content}
 use Rattle.primitives.specs.declared.Content.TheVariants.{Kind1}
 
 abbrev pub leaf_of : Primitive → Leaf
-leaf_of Octets = leaves.octetString never_empty
-leaf_of AnyOctets = leaves.octetString may_be_empty
-leaf_of Bits = leaves.bitString
-leaf_of Ia5 = leaves.ia5String never_empty
-leaf_of AnyIa5 = leaves.ia5String may_be_empty
-leaf_of AnyPrintable = leaves.printableString may_be_empty
-leaf_of AnyUtf8 = leaves.utf8String may_be_empty
+leaf_of Octets = leaves.octet_string never_empty
+leaf_of AnyOctets = leaves.octet_string may_be_empty
+leaf_of Bits = leaves.bit_string
+leaf_of Ia5 = leaves.ia5_string never_empty
+leaf_of AnyIa5 = leaves.ia5_string may_be_empty
+leaf_of AnyPrintable = leaves.printable_string may_be_empty
+leaf_of AnyUtf8 = leaves.utf8_string may_be_empty
 leaf_of Identifier = leaves.identifier
-leaf_of Time = leaves.generalizedTime
+leaf_of Time = leaves.generalized_time
 leaf_of Integer = leaves.integer any
 leaf_of ListKind = leaves.integer is_kind
 leaf_of Millimetres = leaves.integer is_millimetres
 leaf_of Critical = leaves.boolean
-leaf_of HeaderName = leaves.only leaves.headerName
+leaf_of HeaderName = leaves.only leaves.header_name
 leaf_of Version = leaves.only leaves.version
 
 abbrev pub known_of : Word → leaves.Known
-known_of word.HeaderName = leaves.headerName
+known_of word.HeaderName = leaves.header_name
 known_of word.Version = leaves.version
 
 -- whether what a primitive item holds is a number

@@ -1,4 +1,6 @@
 // The primitive items of the rules by name: what each holds, and its tag.
+#![tactic(auto)]
+
 ghost use Rattle.std.specs.Prelude.{◌≡◌};
 ghost use Rattle.contents.specs.Leaves.{only};
 ghost use Rattle.tags.specs.Tag.{tag_byte};

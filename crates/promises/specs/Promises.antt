@@ -67,11 +67,11 @@ module _ (r : Members) (k : Clear r) where
 
   -- what is accepted is a right value's bytes and nothing else
   pub accepted_is_right : (w : List ℕ) (v : Values r) → read_record r w ≡ good v → (w ≡ record_of r v) × Right r v
-  accepted_is_right w v e = let a = Whole.accept-back largest_record r w v e in (a.0, (a.1, rw (← a.0) a.2))
+  accepted_is_right w v e = let a = Whole.accept_back largest_record r w v e in (a.0, (a.1, rw (← a.0) a.2))
 
   -- and every right value's bytes are accepted, as that value
   pub right_is_accepted : (v : Values r) → Right r v → read_record r (record_of r v) ≡ good v
-  right_is_accepted v a = Whole.accept-there largest_record r inner Record.record-spelled v a.0 a.1
+  right_is_accepted v a = Whole.accept-there largest_record r inner Record.record_spelled v a.0 a.1
 
   -- a value has one record only
   pub one_record : (w x : List ℕ) (v : Values r) → read_record r w ≡ good v → read_record r x ≡ good v → w ≡ x
@@ -90,7 +90,7 @@ module _ (r : Members) (k : Clear r) where
     later_bytes_change_nothing = ap (answered (λ v. length (w ++ z))) more ∙ go (read_record r w) refl
       where
         go : (x : Res (Values r)) → read_record r w ≡ x → answered (λ v. length (w ++ z)) x ≡ answered (λ v. length w) x
-        go (good v) e = let l : length w ≤ largest_record = (Whole.accept-back largest_record r w v e).2 in absurd (omega arith)
+        go (good v) e = let l : length w ≤ largest_record = (Whole.accept_back largest_record r w v e).2 in absurd (omega arith)
         go (fault n p) e = refl
 
     -- with a sheet,
@@ -120,14 +120,14 @@ module _ (r : Members) (k : Clear r) where
     match_is_the_first_equal given = Handing.told-first r w v e (fields_stand_there w v e) (is_listed given) told_place
 
     pub equal_is_the_given : (given : List ℕ) (x : Entry) → T (is_listed given x) → x.bytes ≡ given
-    equal_is_the_given given x t = Handing.listed-is given x t
+    equal_is_the_given given x t = Handing.listed_is given x t
 
     -- "Integers and critical come as values."
     pub value_is_the_field's : (f : Field) → Told-of (is_among integer_names f 0) (λ x. gives done (value x.bytes ∷ [])) (value_answer r f w)
     value_is_the_field's f = Handing.told-first r w v e (fields_stand_there w v e) (is_among integer_names f 0) _
 
     pub critical_is_the_item's : (f : Field) (i : ℕ) → Told-of (is_owner f i) (told_critical f i (fields r v)) (critical_answer r f i w)
-    critical_is_the_item's f i = rw (Handing.fields_in r w v e) (Handing.told-first r w v e (fields_stand_there w v e) (is_owner f i) (told_critical f i (fields r v)))
+    critical_is_the_item's f i = rw (Handing.fields_in_lem r w v e) (Handing.told-first r w v e (fields_stand_there w v e) (is_owner f i) (told_critical f i (fields r v)))
 
     -- "Absent and present-with-no-items are different field values."
     pub count_is_the_list's : (f : Field) → Told-of (is_among list_names f 0) (λ x. told_one done x.items) (count_answer r f w)
@@ -136,11 +136,11 @@ module _ (r : Members) (k : Clear r) where
   -- a refused record answers every question with its refusal
   pub refused_is_told : (w : List ℕ) (n p : ℕ) → read_record r w ≡ fault n p → (f : Field) (i : ℕ) (given : List ℕ)
       → (field_answer r f i w ≡ refusal n p) × (match_answer r given w ≡ refusal n p) × (value_answer r f w ≡ refusal n p) × (critical_answer r f i w ≡ refusal n p) × (count_answer r f w ≡ refusal n p)
-  refused_is_told w n p e f i given = Handing.refused-told r w n p e f i given
+  refused_is_told w n p e f i given = Handing.refused_told r w n p e f i given
 
   -- a refusal is about the record or a field of it; where a record is accepted there is nothing
   pub refused_is_about_something : (w : List ℕ) (n p : ℕ) → read_record r w ≡ fault n p → record_about largest_record r w ≡ Nothing → ⊥
-  refused_is_about_something w n p e = About.refused-about largest_record r w n p e
+  refused_is_about_something w n p e = About.refused_about largest_record r w n p e
 
   pub accepted_is_about_nothing : (w : List ℕ) (v : Values r) → read_record r w ≡ good v → record_about largest_record r w ≡ Nothing
   accepted_is_about_nothing w v e = About.accepted-about largest_record r w v e
@@ -148,7 +148,7 @@ module _ (r : Members) (k : Clear r) where
   -- and the fields that were passed, of a refused record those before the fault, are their own bytes in the caller's record; of an
   -- accepted one they are all its fields
   pub passed_stand_there : (w : List ℕ) → All (Stands w) (record_passed largest_record r w)
-  passed_stand_there w = Stand.passed-stand largest_record r w
+  passed_stand_there w = Stand.passed_stand largest_record r w
 
   pub accepted_passes_all : (w : List ℕ) (v : Values r) → read_record r w ≡ good v → record_passed largest_record r w ≡ fields r v
   accepted_passes_all w v e = Passing.accepted-passed largest_record r w v e
@@ -160,26 +160,26 @@ module _ (r : Members) (k : Clear r) where
     HandedOut p = PartOf s z (handed_out (seek r p s.now))
 
     pub part_is_its_own_bytes : (v : Values r) → read_record r s.now ≡ good v → (p : Entry → Bool) → HandedOut p → ((x : Entry) × First p (fields r v) x × Lies s z x.bytes x.place) ⊎ (None p (fields r v) × Lies s z [] 0)
-    part_is_its_own_bytes v e p h = Handing.handed-first r s z p h v e (fields_stand_there s.now v e)
+    part_is_its_own_bytes v e p h = Handing.handed_first r s z p h v e (fields_stand_there s.now v e)
 
     pub refused_hands_out_nothing : (n q : ℕ) → read_record r s.now ≡ fault n q → (p : Entry → Bool) → HandedOut p → Lies s z [] 0
-    refused_hands_out_nothing n q e p h = Handing.handed-refused r s z p h n q e
+    refused_hands_out_nothing n q e p h = Handing.handed_refused r s z p h n q e
 
   -- what a reader's table of places tells stands there too: its second and third number are the field's start and length
   pub placed_stands_there : (w : List ℕ) (v : Values r) → read_record r w ≡ good v → (i : ℕ) (d : List ℕ) → Placed i (fields_in r w) d → (f : Field) (x : Entry) → first (is_field f i) (fields r v) ≡ some x
       → take (get_or (under f d) 2 0) (drop (get_or (under f d) 1 0) w) ≡ x.bytes
   placed_stands_there w v e i d h f x q =
-      let u : under f d ≡ numbers_of (some x) = h.1 f ∙ ap (λ (y : List Entry). numbers_of (first (is_field f i) y)) (Handing.fields_in r w v e) ∙ ap numbers_of q in
+      let u : under f d ≡ numbers_of (some x) = h.1 f ∙ ap (λ (y : List Entry). numbers_of (first (is_field f i) y)) (Handing.fields_in_lem r w v e) ∙ ap numbers_of q in
       rw u (stands_cut w x (first_holds (Stands w) (is_field f i) (fields r v) x (fields_stand_there w v e) (rw q at (first-sought (is_field f i) (fields r v)))))
 
   -- ---- sheets
 
   -- what is taken for a sheet is a right value's sheet and nothing else, and the sheet of every accepted record is taken
   pub sheet_is_right : (x : List ℕ) (v : Values r) → accept_sheet r x ≡ good v → (x ≡ sheets r v) × Oks r v
-  sheet_is_right x v e = Whole.sheet-back largest_record r x v e
+  sheet_is_right x v e = Whole.sheet_back largest_record r x v e
 
   pub right_is_a_sheet : (w : List ℕ) (v : Values r) → read_record r w ≡ good v → accept_sheet r (sheets r v) ≡ good v
-  right_is_a_sheet w v e = Whole.sheet-taken largest_record r k Record.record-spelled w v e
+  right_is_a_sheet w v e = Whole.sheet-taken largest_record r k Record.record_spelled w v e
 
   -- "On any refusal the destination keeps all its bytes; on success only the reported number of first bytes changes."
   -- What a caller with the destination `d` is answered and finds in it, in every case: a sheet that is filled from a record,
@@ -192,17 +192,17 @@ module _ (r : Members) (k : Clear r) where
 
     pub refused_record_fills_nothing : (n p : ℕ) → read_record r w ≡ fault n p → NotFilled n p
     unfolding fill_answer fill_after fill_sheet bind
-    refused_record_fills_nothing n p e = Whole.refused-kept d _ n p (rw e)
+    refused_record_fills_nothing n p e = Whole.refused_kept d _ n p (rw e)
 
     module _ (v : Values r) (e : read_record r w ≡ good v) where
       pub record_fills_its_sheet : length (sheets r v) ≤ length d → Filled (sheets r v)
       unfolding fill_answer fill_after fill_sheet
-      record_fills_its_sheet h = Whole.fits-wrote d (sheets r v) _ (bind_eq _ e) h
+      record_fills_its_sheet h = Whole.fits_wrote d (sheets r v) _ (bind_eq _ e) h
 
       -- "A reader that fills a sheet gives 20 after all else."
       pub sheet-without-room : length d < length (sheets r v) → NotFilled no_room (length (sheets r v))
       unfolding fill_answer fill_after fill_sheet
-      sheet-without-room h = Whole.short-kept d (sheets r v) _ (bind_eq _ e) h
+      sheet-without-room h = Whole.short_kept d (sheets r v) _ (bind_eq _ e) h
 
   -- and a record that is written from a sheet
   module _ (x d : List ℕ) where
@@ -214,22 +214,22 @@ module _ (r : Members) (k : Clear r) where
 
     pub refused_sheet_writes_nothing : (n p : ℕ) → accept_sheet r x ≡ fault n p → NotWritten n p
     unfolding write_answer write_after write_record bind
-    refused_sheet_writes_nothing n p e = Whole.refused-kept d _ n p (rw e)
+    refused_sheet_writes_nothing n p e = Whole.refused_kept d _ n p (rw e)
 
     -- "A writer reads the whole sheet first, then 17, then 20."
     module _ (v : Values r) (e : accept_sheet r x ≡ good v) where
       pub too_large_a_record : largest_record < length (record_of r v) → NotWritten too_large 0
       unfolding write_answer write_after write_record need
-      too_large_a_record h = Whole.refused-kept d _ too_large 0 (bind_eq _ e ∙ rw (lt-leb (length (record_of r v)) largest_record h))
+      too_large_a_record h = Whole.refused_kept d _ too_large 0 (bind_eq _ e ∙ rw (lt-leb (length (record_of r v)) largest_record h))
 
       module _ (l : length (record_of r v) ≤ largest_record) where
         pub sheet_writes_its_record : length (record_of r v) ≤ length d → Written (record_of r v)
         unfolding write_answer write_after write_record
-        sheet_writes_its_record h = Whole.fits-wrote d (record_of r v) _ (bind_eq _ e ∙ need_eq _ _ _ _ (le→leb _ _ l)) h
+        sheet_writes_its_record h = Whole.fits_wrote d (record_of r v) _ (bind_eq _ e ∙ need_eq _ _ _ _ (le→leb _ _ l)) h
 
         pub record_without_room : length d < length (record_of r v) → NotWritten no_room (length (record_of r v))
         unfolding write_answer write_after write_record
-        record_without_room h = Whole.short-kept d (record_of r v) _ (bind_eq _ e ∙ need_eq _ _ _ _ (le→leb _ _ l)) h
+        record_without_room h = Whole.short_kept d (record_of r v) _ (bind_eq _ e ∙ need_eq _ _ _ _ (le→leb _ _ l)) h
 
   -- "Record → sheet → record and sheet → record → sheet give the same bytes.": each way succeeds wherever there is room
   pub record_sheet_record : (w : List ℕ) (v : Values r) → read_record r w ≡ good v → (d d' : List ℕ) → length (sheets r v) ≤ length d → length w ≤ length d'
@@ -250,19 +250,19 @@ module _ (r : Members) (k : Clear r) where
 
   -- "a run reads back exactly its list": every list of right values makes a run that reads as that list, and every accepted run is the bytes of such a list
   pub run_reads_back : (vs : List (Values r)) → All (Right r) vs → (read_run r (run_of r vs) ≡ whole vs) × (run_answer r (run_of r vs) ≡ told_one done (length vs))
-  run_reads_back vs ok = (Runs.run-there r inner vs ok, Runs.run-counted r inner vs ok)
+  run_reads_back vs ok = (Runs.run_there r inner vs ok, Runs.run_counted r inner vs ok)
 
   pub every_run_is_a_list : (w : List ℕ) (n : ℕ) → run_answer r w ≡ told_one done n → (vs : List (Values r)) × (length vs ≡ n) × (w ≡ run_of r vs) × All (Right r) vs
   every_run_is_a_list w n e = Runs.counted_back r w n e
 
   -- "two lists of values never give the same bytes"
   pub two_lists_differ : (us vs : List (Values r)) → All (Right r) us → All (Right r) vs → run_of r us ≡ run_of r vs → us ≡ vs
-  two_lists_differ us vs p q e = Runs.run-injective r inner us vs p q e
+  two_lists_differ us vs p q e = Runs.run_injective r inner us vs p q e
 
   -- a refused run: the records before the fault are what stands there, and the run reader stops at the same fault
   pub refused_run_stops : (w : List ℕ) (vs : List (Values r)) (n p : ℕ) → read_run r w ≡ stopped vs n p
       → (rest : List ℕ) × (w ≡ run_of r vs ++ rest) × All (Right r) vs × (here_at r w (length (run_of r vs)) ≡ fault n p)
-  refused_run_stops w vs n p e = Runs.run-stops r w vs n p e
+  refused_run_stops w vs n p e = Runs.run_stops r w vs n p e
 
   -- the run reader, at every position: the end at the end and past it, else what stands there, read as a record
   pub reader_ends : (s : List ℕ) (p : ℕ) → length s ≤ p → here_at r s p ≡ good none
@@ -281,7 +281,7 @@ module _ (r : Members) (k : Clear r) where
   -- it hands a record out where it stands, and goes on behind it with one more handed out; at the end and at a fault it stays
   pub reader_goes_on : (s p : List ℕ) (v : Values r) (w : List ℕ) (x : Reader) → Right r v → s ≡ p ++ (record_of r v ++ w) → x.position ≡ length p
       → (step_answer r s x ≡ told_two done x.position (length (record_of r v))) × (step_after r s x ≡ at (x.position + length (record_of r v)) (one_more x.handed))
-  reader_goes_on s p v w x ok e h = Runs.step-takes r s x (got v w (x.position + length (record_of r v))) (length (record_of r v)) (rw h (reader_takes_a_record s p v w ok e)) refl
+  reader_goes_on s p v w x ok e h = Runs.step_takes r s x (got v w (x.position + length (record_of r v))) (length (record_of r v)) (rw h (reader_takes_a_record s p v w ok e)) refl
 
   pub reader_stays_at_the_end : (s : List ℕ) (x : Reader) → length s ≤ x.position → (step_answer r s x ≡ told_none run_end) × (step_after r s x ≡ x)
   reader_stays_at_the_end s x h = Runs.step-ends r s x (reader_ends s x.position h)
@@ -303,7 +303,7 @@ module _ (r : Members) (k : Clear r) where
 
   -- over a run of right values the last answer is the end. No lent run has more than 2 ^ 64 - 1 bytes.
   pub reader_steps_through : (vs : List (Values r)) → All (Right r) vs → length (run_of r vs) ≤ top → StepsThrough (run_of r vs) vs (told_none run_end)
-  reader_steps_through vs ok h = steps_through (run_of r vs) vs (told_none run_end) ok (Runs.run-walked r inner vs ok h)
+  reader_steps_through vs ok h = steps_through (run_of r vs) vs (told_none run_end) ok (Runs.run_walked r inner vs ok h)
 
   -- stepping through agrees with reading whole: the end after the records of an accepted run, and of a refused one the fault after the records before it
   abbrev pub Agrees : List ℕ → Ran (Values r) → Type 0
@@ -314,28 +314,28 @@ module _ (r : Members) (k : Clear r) where
   stepping_agrees w h = go (read_run r w) refl
     where
       go : (x : Ran (Values r)) → read_run r w ≡ x → Agrees w x
-      go (whole vs) e = let b = Runs.run-back r w vs e in subst (λ (s : List ℕ). StepsThrough s vs (told_none run_end)) (sym b.0) (reader_steps_through vs b.1 (rw (← b.0) h))
-      go (stopped vs n p) e = steps_through w vs (refusal_after n p (length vs)) (refused_run_stops w vs n p e).2 (Runs.stop-walked r inner w vs n p e h)
+      go (whole vs) e = let b = Runs.run_back r w vs e in subst (λ (s : List ℕ). StepsThrough s vs (told_none run_end)) (sym b.0) (reader_steps_through vs b.1 (rw (← b.0) h))
+      go (stopped vs n p) e = steps_through w vs (refusal_after n p (length vs)) (refused_run_stops w vs n p e).2 (Runs.stop_walked r inner w vs n p e h)
 
 -- "no record is the beginning of a longer one": of whichever kind the two are
 pub no_beginning : (r q : Members) (w x : List ℕ) (u : Values r) (v : Values q) → read_record r w ≡ good u → read_record q x ≡ good v → (rest : List ℕ) → w ++ rest ≡ x → rest ≡ []
-no_beginning r q w x u v e g rest h = Record.no-beginning r q w x u v e g rest h
+no_beginning r q w x u v e g rest h = Record.no_beginning r q w x u v e g rest h
 
 -- "Signed bytes are the signed part, or the seal information, with its own tag and length."
 pub signed-bytes : (v : Values signature) → signed_bytes SignedPart signature v ≡ record_of signed_part (signed_part_of v)
-signed-bytes v = Record.signed-signature v
+signed-bytes v = Record.signed_signature v
 
 pub sealed_bytes : (v : Values seal) → signed_bytes SealInformation seal v ≡ record_of seal_information (information_of v)
-sealed_bytes v = Record.signed-seal v
+sealed_bytes v = Record.signed_seal v
 
 -- "equal signed bytes mean equal fields, the seal included"
 pub equal_signed_bytes : (w x : List ℕ) (u v : Values signature) → read_record signature w ≡ good u → read_record signature x ≡ good v
     → signed_bytes SignedPart signature u ≡ signed_bytes SignedPart signature v → (signed_part_of u ≡ signed_part_of v) × (seal_of u ≡ seal_of v)
-equal_signed_bytes w x u v e g h = Record.equal-signature w x u v e g h
+equal_signed_bytes w x u v e g h = Record.equal_signature w x u v e g h
 
 pub equal_sealed_bytes : (w x : List ℕ) (u v : Values seal) → read_record seal w ≡ good u → read_record seal x ≡ good v
     → signed_bytes SealInformation seal u ≡ signed_bytes SealInformation seal v → information_of u ≡ information_of v
-equal_sealed_bytes w x u v e g h = Record.equal-seal w x u v e g h
+equal_sealed_bytes w x u v e g h = Record.equal_seal w x u v e g h
 
 -- "a signature's sheet begins with its seal's"
 pub sheet_begins_with_the_seal's : (v : Values signature) → (rest : List ℕ) × (sheets signature v ≡ sheets seal (seal_of v) ++ rest)
@@ -348,7 +348,7 @@ module _ (b : Rulebook) (w : List ℕ) (f : Findings) (original signer : List �
   -- "after refusals of the record, then 18"
   pub verdict_of_a_refused : (n p : ℕ) → read_record b.layout w ≡ fault n p → told_verdict (verdict b w f original signer) ≡ refusal n p
   unfolding verdict
-  verdict_of_a_refused n p e = rw (e, Verdict.weigh-refused b n p f original signer)
+  verdict_of_a_refused n p e = rw (e, Verdict.weigh_refused b n p f original signer)
 
   module _ (v : Values b.layout) (e : read_record b.layout w ≡ good v) where
     abbrev facts : Facts
@@ -373,7 +373,7 @@ pub no_stamp_no_step_h : (x : Facts) → stamped x ≡ false
     → (is_of_stamp (first_failing signature_rules.steps signature_rules.passed x).number ≡ false)
     × FirstFailing unstamped_steps signature_rules.passed x (first_failing signature_rules.steps signature_rules.passed x)
 no_stamp_no_step_h x h =
-    (Verdict.unstamped-number x h, rw (Verdict.unstamped-answer x h) (Verdict.first-failing unstamped_steps signature_rules.passed x))
+    (Verdict.unstamped_number x h, rw (Verdict.unstamped_answer x h) (Verdict.first-failing unstamped_steps signature_rules.passed x))
 
 -- "A notice goes with 0 and 26 to 34"; the seal verdict "gives no notice"
 pub notice_goes_with : (x : Facts) → (first_failing signature_rules.steps signature_rules.passed x).carries ≡ takes_notice (first_failing signature_rules.steps signature_rules.passed x).number

@@ -1,4 +1,6 @@
 // Reading a seal and a signature record that are the whole input.
+#![tactic(auto)]
+
 ghost use Rattle.std.specs.Prelude.{◌≡◌};
 ghost use Rattle.layouts.specs.Places.{Placed};
 ghost use Rattle.layouts.specs.Whole.{accept, told_outcome};

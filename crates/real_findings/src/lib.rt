@@ -1,4 +1,6 @@
 // Whether every time in the findings is a real date.
+#![tactic(auto)]
+
 ghost use Rattle.std.specs.Prelude.{◌≡◌};
 ghost use Rattle.terms.specs.Answer.{every};
 ghost use Rattle.contents.specs.Time.{is_real};

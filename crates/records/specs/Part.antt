@@ -9,4 +9,4 @@ pub record PartOf (s r : Bor (List ℕ)) (p : ℕ × ℕ) : Type 0 where
 
 -- `r` has just these bytes, and lies in `s` at this offset
 abbrev pub Lies : Bor (List ℕ) → Bor (List ℕ) → List ℕ → ℕ → Type 0
-Lies s r x a = (r.now ≡ x) × (r.ptr ≡ (s.ptr.0, s.ptr.1 + a))
+Lies s r x a = (r.now ≡ x) × (r.ref_ptr ≡ (s.ref_ptr.0, s.ref_ptr.1 + a))

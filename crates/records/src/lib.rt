@@ -1,4 +1,6 @@
 // The two records.
+#![tactic(auto)]
+
 #[derive(Drop)]
 pub enum Record {
     Seal,

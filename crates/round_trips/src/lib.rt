@@ -1,4 +1,6 @@
 // There and back: a record through its sheet, and a sheet through its record, give the same bytes.
+#![tactic(auto)]
+
 ghost use Rattle.std.specs.Prelude.{◌≡◌, length};
 ghost use Rattle.terms.specs.Answer.{answered};
 ghost use Rattle.layouts.specs.Whole.{stored, told_outcome};

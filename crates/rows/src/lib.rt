@@ -1,4 +1,6 @@
 // The layouts of the rules as a table: a row for each structure that has one, each member with its field's name, in the rules' order.
+#![tactic(auto)]
+
 ghost use Rattle.std.specs.Prelude.{◌≡◌};
 ghost use Rattle.records.specs.Record.{custom_item};
 ghost use Rattle.structures.specs.Structure.{row_of};

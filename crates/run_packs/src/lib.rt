@@ -1,4 +1,6 @@
 // The answers over a run, as one number each.
+#![tactic(auto)]
+
 ghost use Rattle.std.specs.Prelude.{◌≡◌};
 ghost use Rattle.runs.specs.Run.{told_stepped, told_counted};
 ghost use Rattle.packs.specs.Packed.{packed_first, packed_step, records_told};

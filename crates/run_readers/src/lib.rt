@@ -1,4 +1,6 @@
 // The run reader: a struct over a lent run of signature records, a position and the number of records handed out, above functions on plain values.
+#![tactic(auto)]
+
 ghost use Rattle.std.specs.Prelude.{◌≡◌, length};
 ghost use Rattle.records.specs.Record.{signature};
 ghost use Rattle.records.specs.Part.{PartOf};

@@ -1,4 +1,6 @@
 // A step of a run on plain values: the number after a record, and the part that an answer names.
+#![tactic(auto)]
+
 ghost use Rattle.std.specs.Prelude.{◌≡◌, length};
 ghost use Rattle.records.specs.Part.{PartOf};
 ghost use Rattle.runs.specs.Run.{one_more, handed_record};

@@ -1,4 +1,6 @@
 // A run by positions: one step of it, and all of it.
+#![tactic(auto)]
+
 ghost use Rattle.std.specs.Prelude.{◌≡◌, length};
 ghost use Rattle.terms.specs.Numbers.{largest_record};
 ghost use Rattle.layouts.specs.Scan.{record_scan};

@@ -1,4 +1,6 @@
 // One step of a run: the next record's start and length, the end, or the refusal's number and place and the records before it.
+#![tactic(auto)]
+
 #[derive(Drop)]
 pub enum Stepped {
     Record { start: usize, length: usize },

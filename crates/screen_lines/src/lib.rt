@@ -1,4 +1,6 @@
 // The lines of a screen by their fields.
+#![tactic(auto)]
+
 ghost use Rattle.std.specs.Prelude.{◌≡◌, ◌<◌};
 ghost use Rattle.terms.specs.Names.{names_count};
 ghost use Rattle.screen_rows.specs.Screen.{name_on};

@@ -1,4 +1,6 @@
 // The rows of a screen: the fields of a signature record in the order of the record, each with its depth and how it is shown.
+#![tactic(auto)]
+
 ghost use Rattle.std.specs.Prelude.{◌≡◌};
 ghost use Rattle.screen_rows.specs.Screen.{row_on};
 

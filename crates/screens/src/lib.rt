@@ -1,4 +1,6 @@
 // The lines of a screen: the fields of a signature record in the order of the record, each with what a table of places has under its name.
+#![tactic(auto)]
+
 ghost use Rattle.std.specs.Prelude.{◌≡◌, not, [], ◌∷◌, get_or, drop, length as size, eqb};
 ghost use Rattle.layouts.specs.Places.{slot, under as numbersUnder};
 ghost use Rattle.records.specs.Part.{PartOf};

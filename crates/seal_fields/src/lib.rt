@@ -1,5 +1,7 @@
 // The fields of a seal by name: each the part of the lent record that it is, and, beside it, where that part lies or why there is none.
 // The record is a seal, or a signature record with its seal.
+#![tactic(auto)]
+
 ghost use Rattle.std.specs.Prelude.{◌≡◌};
 ghost use Rattle.terms.specs.declared.Field.TheVariants.{SealInformation, Vendor, SealId, SealName, ListedCertificate, ListedType, ListedDigest, Created, Start, End, PictureType, PictureData, SealCustomId, SealCustomValue, MakerCertificate, SealAlgorithm, SealSignedValue};
 ghost use Rattle.records.specs.Handing.{layout_of, field_in, field_answer, handed_out, told_part};

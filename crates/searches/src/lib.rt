@@ -1,4 +1,6 @@
 // The entry of a certificate list that equals given bytes, looked for by heads in the list that a table of places has.
+#![tactic(auto)]
+
 ghost use Rattle.std.specs.Prelude.{◌≡◌};
 ghost use Rattle.terms.specs.declared.Field.TheVariants.{ListKind};
 ghost use Rattle.terms.specs.Numbers.{most_items};

@@ -1,4 +1,6 @@
 // The value in a section of a sheet by positions, and the section of critical.
+#![tactic(auto)]
+
 ghost use Rattle.std.specs.Prelude.{◌≡◌};
 ghost use Rattle.layouts.specs.SheetScan.{value_at, flag_section_at};
 ghost use Rattle.primitives.specs.Primitive.{leaf_of};

@@ -1,4 +1,6 @@
 // The section of a primitive item by positions.
+#![tactic(auto)]
+
 ghost use Rattle.std.specs.Prelude.{◌≡◌};
 ghost use Rattle.layouts.specs.SheetScan.{leaf_section_at};
 ghost use Rattle.primitives.specs.Primitive.{leaf_of};

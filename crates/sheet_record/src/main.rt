@@ -1,4 +1,6 @@
 // Reads one signature record from standard input and writes its sheet, or one line: REFUSED, number, place.
+#![tactic(auto)]
+
 use layouts::Outcome;
 use libc::STDOUT_FILENO;
 use records::Record;

@@ -1,4 +1,6 @@
 // One reader of sheets over the table of layouts.
+#![tactic(auto)]
+
 ghost use Rattle.std.specs.Prelude.{◌≡◌, length};
 ghost use Rattle.layouts.specs.Whole.{accept_sheet};
 ghost use Rattle.layouts.specs.SheetScan.{sheet_scan, sheet_scans};

@@ -1,4 +1,6 @@
 // A sheet filled from a record, and a record written from a sheet, into a lent destination.
+#![tactic(auto)]
+
 ghost use Rattle.std.specs.Prelude.{◌≡◌, ◌<◌, length};
 ghost use Rattle.layouts.specs.Layout.{node};
 ghost use Rattle.layouts.specs.Whole.{sequence, told_outcome};

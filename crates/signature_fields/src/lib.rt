@@ -1,5 +1,7 @@
 // The fields of a signature record by name, without its seal's: each the part of the lent record that it is, and, beside it, where that part lies
 // or why there is none.
+#![tactic(auto)]
+
 ghost use Rattle.std.specs.Prelude.{◌≡◌};
 ghost use Rattle.terms.specs.declared.Field.TheVariants.{SignedPart, SigningTime, OriginalDigest, PropertyText, SignedCustomId, SignedCustomValue, SignerCertificate, SignatureAlgorithm, SignatureValue, Stamp};
 ghost use Rattle.records.specs.Record.{signature};

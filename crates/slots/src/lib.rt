@@ -1,4 +1,6 @@
 // A name's numbers in the table of places: where they start.
+#![tactic(auto)]
+
 ghost use Rattle.std.specs.Prelude.{◌≡◌, ◌<◌};
 ghost use Rattle.layouts.specs.Places.{table_size, slot};
 ghost use Rattle.terms.specs.Names.{names_count, name_of};

@@ -1,4 +1,6 @@
 // The steps in a source, a record or a sheet: what stands in an item, how many items there are, whether one is there.
+#![tactic(auto)]
+
 ghost use Rattle.std.specs.Prelude.{◌≡◌};
 ghost use Rattle.tags.specs.Tag.{tag_byte};
 ghost use Rattle.layouts.specs.SheetScan.{count_at};

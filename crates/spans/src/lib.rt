@@ -1,4 +1,6 @@
 // The values in a source, a record or a sheet: where a primitive item's lies, whether a flag is set, and what follows a known member.
+#![tactic(auto)]
+
 ghost use Rattle.std.specs.Prelude.{◌≡◌};
 ghost use Rattle.primitives.specs.Primitive.{leaf_of, known_of, says};
 ghost use Rattle.sides.specs.Move.{span_at, value_at, flag_at, known_at};

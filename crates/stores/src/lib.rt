@@ -1,4 +1,6 @@
 // Bytes stored one after another in a destination, as far as it has room; each function answers the position after them.
+#![tactic(auto)]
+
 ghost use Rattle.std.specs.Prelude.{◌≡◌, [], ◌∷◌, replicate};
 ghost use Rattle.stores.specs.Store.{bump as bumpOf, advance, puts, room_for};
 

@@ -1,4 +1,6 @@
 // Standard input as the programs have it: the input into a buffer.
+#![tactic(auto)]
+
 ghost use Rattle.std.specs.Prelude.{◌≡◌, ◌≤◌, length};
 ghost use Rattle.streams.specs.Input.{Reads, Filled};
 

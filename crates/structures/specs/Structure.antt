@@ -15,35 +15,35 @@ use Rattle.structures.specs.declared.Build.TheVariants as build
 
 abbrev pub row_of : Row → Members
 row_of row.Signature = rules.signature
-row_of row.SignedPart = rules.signedPart
+row_of row.SignedPart = rules.signed_part
 row_of row.Seal = rules.seal
-row_of row.SealInformation = rules.sealInformation
+row_of row.SealInformation = rules.seal_information
 row_of row.Header = rules.header
 row_of row.Property = rules.property
 row_of row.Digest = rules.digest
 row_of row.Picture = rules.picture
-row_of row.SealCustomItem = rules.sealCustomItem
-row_of row.SignedCustomItem = rules.signedCustomItem
+row_of row.SealCustomItem = rules.seal_custom_item
+row_of row.SignedCustomItem = rules.signed_custom_item
 
 abbrev pub layout_of : Structure → Item
 layout_of structure.Signature = node sequence rules.signature
-layout_of structure.SignedPart = node sequence rules.signedPart
+layout_of structure.SignedPart = node sequence rules.signed_part
 layout_of structure.Seal = node sequence rules.seal
-layout_of structure.SealInformation = node sequence rules.sealInformation
+layout_of structure.SealInformation = node sequence rules.seal_information
 layout_of structure.Header = node sequence rules.header
 layout_of structure.Property = node sequence rules.property
 layout_of structure.Certificates = rules.certificates
-layout_of structure.Certificate = leaf (leaves.octetString never_empty)
+layout_of structure.Certificate = leaf (leaves.octet_string never_empty)
 layout_of structure.Digests = rules.digests
 layout_of structure.Digest = node sequence rules.digest
 layout_of structure.Picture = node sequence rules.picture
-layout_of structure.SealCustomData = rules.sealCustomData
-layout_of structure.SealCustomItem = node sequence rules.sealCustomItem
-layout_of structure.TaggedCustomData = rules.tagged-0 rules.signedCustomData
-layout_of structure.SignedCustomData = rules.signedCustomData
-layout_of structure.SignedCustomItem = node sequence rules.signedCustomItem
-layout_of structure.TaggedStamp = rules.tagged-0 (leaf leaves.bitString)
-layout_of structure.Stamp = leaf leaves.bitString
+layout_of structure.SealCustomData = rules.seal_custom_data
+layout_of structure.SealCustomItem = node sequence rules.seal_custom_item
+layout_of structure.TaggedCustomData = rules.tagged_0 rules.signed_custom_data
+layout_of structure.SignedCustomData = rules.signed_custom_data
+layout_of structure.SignedCustomItem = node sequence rules.signed_custom_item
+layout_of structure.TaggedStamp = rules.tagged_0 (leaf leaves.bit_string)
+layout_of structure.Stamp = leaf leaves.bit_string
 
 -- an item by its build
 abbrev pub item_of : Build → Item

@@ -1,4 +1,6 @@
 // The structures of the rules by name, and how each is built: a primitive item, a row in a tag, a list, or an item in a tag of its own.
+#![tactic(auto)]
+
 ghost use Rattle.std.specs.Prelude.{◌≡◌};
 ghost use Rattle.tags.specs.Tag.{tag_byte};
 ghost use Rattle.layouts.specs.Layout.{tag_of};

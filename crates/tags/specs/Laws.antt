@@ -19,7 +19,7 @@ tags = Boolean ∷ Integer ∷ BitString ∷ OctetString ∷ Identifier ∷ Utf8
 
 tag_back : (t : Tag) → tag_in tags (tag_byte t) ≡ some t
 unfolding tag_in tags pick
-tag_back t = elim t [ Boolean ↦ refl | Integer ↦ refl | BitString ↦ refl | OctetString ↦ refl | Identifier ↦ refl | Utf8String ↦ refl | PrintableString ↦ refl | Ia5String ↦ refl | Time ↦ refl | Sequence ↦ refl | Context0 ↦ refl ]
+tag_back t = elim t as (λ k. tag_in tags (tag_byte k) ≡ some k) [ Boolean ↦ refl | Integer ↦ refl | BitString ↦ refl | OctetString ↦ refl | Identifier ↦ refl | Utf8String ↦ refl | PrintableString ↦ refl | Ia5String ↦ refl | Time ↦ refl | Sequence ↦ refl | Context0 ↦ refl ]
 
 pub tag_one : (t u : Tag) → tag_byte t ≡ tag_byte u → t ≡ u
 tag_one t u e = let f : some t ≡ some u = sym (tag_back t) ∙ ap (tag_in tags) e ∙ tag_back u in cc
@@ -32,13 +32,13 @@ tells_one b Other Other h k = refl
 
 -- no tag has the byte 0
 pub not_zero : (t : Tag) → eqb 0 (tag_byte t) ≡ false
-not_zero t = elim t [ Boolean ↦ refl | Integer ↦ refl | BitString ↦ refl | OctetString ↦ refl | Identifier ↦ refl | Utf8String ↦ refl | PrintableString ↦ refl | Ia5String ↦ refl | Time ↦ refl | Sequence ↦ refl | Context0 ↦ refl ]
+not_zero t = elim t as (λ k. eqb 0 (tag_byte k) ≡ false) [ Boolean ↦ refl | Integer ↦ refl | BitString ↦ refl | OctetString ↦ refl | Identifier ↦ refl | Utf8String ↦ refl | PrintableString ↦ refl | Ia5String ↦ refl | Time ↦ refl | Sequence ↦ refl | Context0 ↦ refl ]
 
 -- a byte that is none of the tags
 pub no_tag : (b : ℕ) → (b ≡ 0x01 → ⊥) → (b ≡ 0x02 → ⊥) → (b ≡ 0x03 → ⊥) → (b ≡ 0x04 → ⊥) → (b ≡ 0x06 → ⊥) → (b ≡ 0x0C → ⊥) → (b ≡ 0x13 → ⊥) → (b ≡ 0x16 → ⊥) → (b ≡ 0x18 → ⊥)
     → (b ≡ 0x30 → ⊥) → (b ≡ 0xA0 → ⊥) → (t : Tag) → b ≡ tag_byte t → ⊥
 no_tag b h₁ h₂ h₃ h₄ h₅ h₆ h₇ h₈ h₉ h₁₀ h₁₁ t =
-    elim t [ Boolean ↦ h₁ | Integer ↦ h₂ | BitString ↦ h₃ | OctetString ↦ h₄ | Identifier ↦ h₅ | Utf8String ↦ h₆ | PrintableString ↦ h₇ | Ia5String ↦ h₈ | Time ↦ h₉ | Sequence ↦ h₁₀ | Context0 ↦ h₁₁ ]
+    elim t as (λ k. b ≡ tag_byte k → ⊥) [ Boolean ↦ h₁ | Integer ↦ h₂ | BitString ↦ h₃ | OctetString ↦ h₄ | Identifier ↦ h₅ | Utf8String ↦ h₆ | PrintableString ↦ h₇ | Ia5String ↦ h₈ | Time ↦ h₉ | Sequence ↦ h₁₀ | Context0 ↦ h₁₁ ]
 
 -- a byte that is no tag is not the wanted one
 pub tells-other : (b : ℕ) (r : Tagged) (t : Tag) → Tells b r → r ≡ Other → b ≡ tag_byte t → ⊥

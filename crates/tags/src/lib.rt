@@ -1,4 +1,6 @@
 // The tags of the rules, and their bytes.
+#![tactic(auto)]
+
 ghost use Rattle.std.specs.Prelude.{◌≡◌};
 ghost use Rattle.tags.specs.Tag.{tag_byte, Tells};
 

@@ -1,4 +1,6 @@
 // Of the lists in a table of places: how many items one has, and whether an item is critical.
+#![tactic(auto)]
+
 ghost use Rattle.std.specs.Prelude.{◌≡◌};
 ghost use Rattle.tallies.specs.Tally.{is_under, critical_under, count_under};
 

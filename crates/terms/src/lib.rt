@@ -1,5 +1,7 @@
 // What a seal and a signature record hold, by name: the seal's parts in the order of a seal, then the signature record's.
 // A list's items are counted by an index beside the name.
+#![tactic(auto)]
+
 #[derive(Drop)]
 pub enum Field {
     SealInformation,

@@ -1,4 +1,6 @@
 // The rules of strings: an item's content is the window from `a` to `z` of the slice, its tag stands at `at`.
+#![tactic(auto)]
+
 ghost use Rattle.std.specs.Prelude.{◌≡◌};
 ghost use Rattle.contents.specs.Text.{is_text, ia5 as ia5Characters, printable as printableCharacters, utf8 as utf8Characters};
 ghost use Rattle.contents.specs.Rules.{string_rule};

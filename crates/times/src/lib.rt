@@ -1,4 +1,6 @@
 // Times: the Gregorian rule, a record's time by its bytes, a finding's time by its number.
+#![tactic(auto)]
+
 ghost use Rattle.std.specs.Prelude.{◌≡◌, ◌&&◌, ◌+◌, ◌*◌, ◌^◌, ◌≤◌, ◌<◌, drop, eqb};
 ghost use Rattle.std.proofs.Math.Seq.{slice};
 ghost use Rattle.contents.specs.Time.{leap, month_length, year_digits, time_from, time_rule, moment as instant, moment_of, written, is_real};

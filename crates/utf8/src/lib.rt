@@ -1,4 +1,6 @@
 // The characters of UTF-8: whether a content is text of a UTF8String.
+#![tactic(auto)]
+
 ghost use Rattle.std.specs.Prelude.{◌≡◌, [], ◌∷◌, ◌+◌, ◌≤◌, ◌<◌, length, get_or, drop, replicate};
 ghost use Rattle.contents.specs.Text.{is_text, utf8 as utf8Characters};
 ghost use Rattle.utf8.specs.Text.{goes_on, size_with, character_size};

@@ -1,4 +1,6 @@
 // Integers, critical and the number of a list's items as one number each.
+#![tactic(auto)]
+
 ghost use Rattle.std.specs.Prelude.{◌≡◌};
 ghost use Rattle.records.specs.Handing.{told_number, told_is, told_items};
 ghost use Rattle.packs.specs.Packed.{packed_number, packed_first, value_told};

@@ -1,4 +1,6 @@
 // The integers of a record, as values.
+#![tactic(auto)]
+
 ghost use Rattle.std.specs.Prelude.{◌≡◌, T};
 ghost use Rattle.terms.specs.declared.Field.TheVariants.{SealType, ListKind, Width, Height};
 ghost use Rattle.records.specs.Handing.{layout_of, is_one_of, integer_names, value_answer, told_number};

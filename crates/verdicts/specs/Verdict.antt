@@ -66,7 +66,7 @@ in_period x t = between (time_of Start x) (time_of End x) t
 
 -- "kind 1, .. the signer certificate; kind 2, .. the signer's digest"
 unfoldable pub sought : Facts → List ℕ
-sought x = pick (says_kind1 (the ListKind x)) (the SignerCertificate x) x.signerDigest
+sought x = pick (says_kind1 (the ListKind x)) (the SignerCertificate x) x.signer_digest
 
 unfoldable pub signer_listed : Facts → Bool
 signer_listed x = is_there (first (is_listed (sought x)) x.entries)
@@ -104,7 +104,7 @@ signature_steps =
     ∷ step outside_dates with_notice (λ x. not (within_dates x.found.signer.dates (signing x)))
     ∷ step signer_revoked with_notice (λ x. revoked_by x.found.signer.revocation (signing x))
     -- g, h
-    ∷ step digest_differs with_notice (λ x. not (same x.originalDigest (the OriginalDigest x)))
+    ∷ step digest_differs with_notice (λ x. not (same x.original_digest (the OriginalDigest x)))
     ∷ step stamp_bad with_notice (λ x. stamped x && not (at_stamp x.found.stamp.state (λ t. true)))
     ∷ step after_stamp with_notice (λ x. stamped x && at_stamp x.found.stamp.state (λ t. not (not_later (signing x) t)))
     ∷ step signer_out_at_stamp with_notice (λ x. stamped x && at_stamp x.found.stamp.state (λ t. not (in_force x.found.signer t)))

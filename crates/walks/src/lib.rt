@@ -1,5 +1,7 @@
 // One reader over the table of layouts, which notes where each field stands, and of a refusal the innermost field that it is about: each item
 // that is refused notes its name, and the first name stays. Each case returns by itself: an answer that the cases of a match share is copied once more.
+#![tactic(auto)]
+
 ghost use Rattle.std.specs.Prelude.{◌≡◌};
 ghost use Rattle.structures.specs.Structure.{row_of, layout_of};
 ghost use Rattle.walks.specs.Walk.{item_walk, row_walk, member_walk, list_walk, record_walk};

@@ -1,4 +1,6 @@
 // Windows of a slice: from a position up to an end that may lie past the slice.
+#![tactic(auto)]
+
 ghost use Rattle.std.specs.Prelude.{◌≡◌, take, drop, ◌||◌, ltb};
 ghost use Rattle.std.proofs.Math.Seq.{slice};
 ghost use Rattle.terms.specs.Answer.{same};

@@ -1,5 +1,7 @@
 // Reads one signature record from standard input, fills its sheet and writes the record again from that; or prints one line: REFUSED, number,
 // place. The tests run it: what it writes is what it read.
+#![tactic(auto)]
+
 use layouts::Outcome;
 use libc::STDOUT_FILENO;
 use records::Record;
