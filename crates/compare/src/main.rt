@@ -24,7 +24,7 @@ const SEAL_CODES: u8 = 24;
 const SIGNATURE_CODES: u8 = 36;
 
 // What a code asks for.
-#[derive(Drop)]
+#[derive(Clone, Copy)]
 enum Wanted {
     Place(Field),
     SealType,

@@ -23,7 +23,7 @@ use terms::{Field, LARGEST_RECORD, NAMES};
 const ROOM: usize = TABLE_SIZE + 1;
 
 // What reading a record comes to; whose fault its refusal is; and the table of the places that were passed, all of them where it was accepted.
-#[derive(Drop)]
+#[derive(Clone, Copy)]
 pub struct Fault {
     pub outcome: Outcome,
     pub whose: Whose,

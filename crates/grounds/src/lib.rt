@@ -17,7 +17,7 @@ use records::{Part, Record};
 use terms::{Field, LARGEST_RECORD};
 
 // The seal's period, the time of signing, whether the signer is in the list, whether the original's digest is the given one, and whether there is a stamp.
-#[derive(Drop)]
+#[derive(Clone, Copy)]
 pub struct Grounds {
     pub start: Moment,
     pub end: Moment,
@@ -28,7 +28,7 @@ pub struct Grounds {
 }
 
 // A record that was read for a verdict, or its refusal.
-#[derive(Drop)]
+#[derive(Clone, Copy)]
 pub enum Ground {
     Read(Grounds),
     Refused(u8, usize),

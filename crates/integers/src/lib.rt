@@ -13,7 +13,7 @@ use numbers::Number;
 use terms::{BAD_INTEGER, NOT_ALLOWED};
 
 // Which numbers are allowed.
-#[derive(Drop)]
+#[derive(Clone, Copy)]
 pub enum Allowed {
     Any,
     Kind,

@@ -12,7 +12,7 @@ use tags::{Tag, Tagged};
 use terms::{BAD_LENGTH, ITEM_MISSING, OTHER_TAG, PAST_END, TOO_LARGE};
 
 // How a length is spelled: in its one byte, or in one or two bytes after 81 or 82.
-#[derive(Drop)]
+#[derive(Clone, Copy)]
 enum Form {
     Short,
     OneByte,
@@ -20,7 +20,7 @@ enum Form {
 }
 
 // A length: its form, the bytes of tag and length together, those of the content, and whether no shorter form has it.
-#[derive(Drop)]
+#[derive(Clone, Copy)]
 enum Length {
     Spelled {
         form: Form,
@@ -32,7 +32,7 @@ enum Length {
 }
 
 // A tag and a length that were read: the bytes of both together and those of the content, or the refusal's number and place.
-#[derive(Drop)]
+#[derive(Clone, Copy)]
 enum Opening {
     Opened { header: usize, content: usize },
     Refused(u8, usize),

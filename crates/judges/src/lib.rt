@@ -14,14 +14,14 @@ mod signatures;
 mod steps;
 
 // Whether a step passes.
-#[derive(Drop)]
+#[derive(Clone, Copy)]
 pub enum Check {
     Passes,
     Fails,
 }
 
 // The time of a stamp that is there and good, if there is one.
-#[derive(Drop)]
+#[derive(Clone, Copy)]
 pub enum StampTime {
     At(Moment),
     None,

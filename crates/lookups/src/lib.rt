@@ -7,7 +7,7 @@ ghost use Rattle.layouts.specs.Places.{slot, under as numbersUnder};
 use terms::Field;
 
 // What stands under a name.
-#[derive(Drop)]
+#[derive(Clone, Copy)]
 pub struct Place {
     pub there: bool,
     pub start: usize,

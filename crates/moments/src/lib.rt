@@ -6,7 +6,7 @@ ghost use Rattle.contents.specs.Time.{not_later, moment_of, moment_at};
 ghost use Rattle.moments.specs.Moment.{moment_in};
 
 // A moment, by the number that its fourteen digits make.
-#[derive(Drop)]
+#[derive(Clone, Copy)]
 pub struct Moment {
     number: u64,
 }

@@ -22,7 +22,7 @@ use tags::Tag;
 const SLOTS: usize = 256;
 
 // Where something starts: in the source, in the destination, and among the notes.
-#[derive(Drop)]
+#[derive(Clone, Copy)]
 struct Spot {
     at: usize,
     pos: usize,
@@ -30,7 +30,7 @@ struct Spot {
 }
 
 // Where what follows an item's content starts, and the number of a list's items.
-#[derive(Drop)]
+#[derive(Clone, Copy)]
 struct Body {
     at: usize,
     items: usize,

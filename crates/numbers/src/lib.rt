@@ -7,7 +7,7 @@ ghost use Rattle.terms.specs.Digits.{number};
 ghost use Rattle.numbers.specs.Number.{digit_of, turned_if, number_of, number_at};
 
 // The number of a content, or that it is none.
-#[derive(Drop)]
+#[derive(Clone, Copy)]
 pub enum Number {
     Value(i64),
     Bad,

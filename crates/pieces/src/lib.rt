@@ -12,14 +12,14 @@ use primitives::Primitive;
 use sides::Side;
 
 // Where what follows starts in the source, and in the destination.
-#[derive(Drop)]
+#[derive(Clone, Copy)]
 pub struct Moved {
     pub next: usize,
     pub to: usize,
 }
 
 // One byte, so many times.
-#[derive(Drop)]
+#[derive(Clone, Copy)]
 struct Padding {
     byte: u8,
     times: usize,

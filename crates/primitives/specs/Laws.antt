@@ -34,7 +34,7 @@ items = Octets ∷ AnyOctets ∷ Bits ∷ Ia5 ∷ AnyIa5 ∷ AnyPrintable ∷ An
 item_back : (p : Primitive) → item_in items (marks (leaf_of p)) ≡ some p
 unfolding marks item_in items pick bind need enough same number_from ask passes shortest well_formed value within starts follows text_from parts_from is_identifier is_digit part_from time_from time_check time_rule integer_rule string_rule octets_rule identifier_rule boolean_rule also only_rule
 item_back p =
-    elim p [ Octets ↦ refl | AnyOctets ↦ refl | Bits ↦ refl | Ia5 ↦ refl | AnyIa5 ↦ refl | AnyPrintable ↦ refl | AnyUtf8 ↦ refl | Identifier ↦ refl | Time ↦ refl | Integer ↦ refl | ListKind ↦ refl | Millimetres ↦ refl | Critical ↦ refl | HeaderName ↦ refl | Version ↦ refl ]
+    elim p as (λ k. item_in items (marks (leaf_of k)) ≡ some k) [ Octets ↦ refl | AnyOctets ↦ refl | Bits ↦ refl | Ia5 ↦ refl | AnyIa5 ↦ refl | AnyPrintable ↦ refl | AnyUtf8 ↦ refl | Identifier ↦ refl | Time ↦ refl | Integer ↦ refl | ListKind ↦ refl | Millimetres ↦ refl | Critical ↦ refl | HeaderName ↦ refl | Version ↦ refl ]
 
 pub leaf_one : (p q : Primitive) → leaf_of p ≡ leaf_of q → p ≡ q
 leaf_one p q e = let f : some p ≡ some q = sym (item_back p) ∙ ap (λ (l : Leaf). item_in items (marks l)) e ∙ item_back q in cc

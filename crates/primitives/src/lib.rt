@@ -9,7 +9,7 @@ ghost use Rattle.primitives.specs.Primitive.{leaf_of, known_of};
 use tags::Tag;
 
 // What a primitive item holds; `Any`: it may have no bytes. The header's name and the version have one content only.
-#[derive(Drop)]
+#[derive(Clone, Copy)]
 pub enum Primitive {
     Octets,
     AnyOctets,
@@ -29,14 +29,14 @@ pub enum Primitive {
 }
 
 // A member whose content is known: the header's name and the version.
-#[derive(Drop)]
+#[derive(Clone, Copy)]
 pub enum Word {
     HeaderName,
     Version,
 }
 
 // A content that decides between two items: of the list kind, 1.
-#[derive(Drop)]
+#[derive(Clone, Copy)]
 pub enum Content {
     Kind1,
 }

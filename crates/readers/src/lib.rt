@@ -16,7 +16,7 @@ use structures::Row;
 use terms::LARGEST_RECORD;
 
 // What reading a record comes to; and, where it was accepted, the table of its places.
-#[derive(Drop)]
+#[derive(Clone, Copy)]
 pub struct Reading {
     pub outcome: Outcome,
     pub places: [usize; TABLE_SIZE],

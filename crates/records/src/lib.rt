@@ -1,14 +1,14 @@
 // The two records.
 #![tactic(auto)]
 
-#[derive(Drop)]
+#[derive(Clone, Copy)]
 pub enum Record {
     Seal,
     Signature,
 }
 
 // Where a field or a matching entry lies in the lent record, start and length; or why there is none.
-#[derive(Drop)]
+#[derive(Clone, Copy)]
 pub enum Part {
     There { start: usize, length: usize },
     Absent,
@@ -16,7 +16,7 @@ pub enum Part {
 }
 
 // An integer of a record.
-#[derive(Drop)]
+#[derive(Clone, Copy)]
 pub enum Number {
     Value(i64),
     Absent,
@@ -24,7 +24,7 @@ pub enum Number {
 }
 
 // Whether a custom item is critical.
-#[derive(Drop)]
+#[derive(Clone, Copy)]
 pub enum Critical {
     Is(bool),
     Absent,
@@ -32,7 +32,7 @@ pub enum Critical {
 }
 
 // How many items a list has: absent custom data is not an empty list.
-#[derive(Drop)]
+#[derive(Clone, Copy)]
 pub enum Items {
     Count(usize),
     Absent,

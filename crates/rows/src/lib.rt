@@ -15,7 +15,7 @@ pub const MEMBERS: usize = 6;
 
 // What stands next in a row; `Blank` fills it up. `Choice`: a primitive item, and of two items of one name the first where its content
 // is the one that is given, else the second.
-#[derive(Drop)]
+#[derive(Clone, Copy)]
 pub enum Member {
     Blank,
     Known(Word),

@@ -11,7 +11,7 @@ use records::Record;
 use runs::{Moved, Stepped};
 
 // A run, where to read on, and how many records were handed out.
-#[derive(Drop)]
+#[derive(Clone, Copy)]
 pub struct RunReader<'a> {
     pub run: &'a [u8],
     pub position: usize,
@@ -19,7 +19,7 @@ pub struct RunReader<'a> {
 }
 
 // A run reader after a step, and what the step answered.
-#[derive(Drop)]
+#[derive(Clone, Copy)]
 pub struct After<'a> {
     pub run: &'a [u8],
     pub position: usize,

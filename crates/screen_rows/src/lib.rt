@@ -7,7 +7,7 @@ ghost use Rattle.screen_rows.specs.Screen.{row_on};
 use terms::Field;
 
 // How a field's bytes are shown.
-#[derive(Drop)]
+#[derive(Clone, Copy)]
 pub enum Shows {
     Structure,
     List,
@@ -20,7 +20,7 @@ pub enum Shows {
 }
 
 // A line without a record: its field, how many structures and lists of the record it stands in, and how it is shown.
-#[derive(Drop)]
+#[derive(Clone, Copy)]
 pub struct Row(pub Field, pub usize, pub Shows);
 
 // How many lines there are.

@@ -12,7 +12,7 @@ use screen_rows::Shows;
 use terms::Field;
 
 // A line of a record: its row, and what stands under its name.
-#[derive(Drop)]
+#[derive(Clone, Copy)]
 pub struct Line {
     pub name: Field,
     pub depth: usize,

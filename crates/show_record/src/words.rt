@@ -1,14 +1,14 @@
 // The languages of a screen, and the words that stand around the fields on it.
 
 // The two languages.
-#[derive(Drop)]
+#[derive(Clone, Copy)]
 pub enum Language {
     English,
     Chinese,
 }
 
 // The words: the heads of the columns, what is said of a field that has no bytes of its own, and what the whole is.
-#[derive(Drop)]
+#[derive(Clone, Copy)]
 pub enum Word {
     Offset,
     Length,

@@ -1,7 +1,7 @@
 // The forms in which values stand: a record or a sheet.
 #![tactic(auto)]
 
-#[derive(Drop)]
+#[derive(Clone, Copy)]
 pub enum Side {
     Record,
     Sheet,

@@ -13,21 +13,21 @@ use sides::Side;
 use tags::Tag;
 
 // Where something starts and where it stops.
-#[derive(Drop)]
+#[derive(Clone, Copy)]
 pub struct Span {
     pub start: usize,
     pub end: usize,
 }
 
 // A count, and where what it counts starts.
-#[derive(Drop)]
+#[derive(Clone, Copy)]
 struct Counted {
     items: usize,
     start: usize,
 }
 
 // What stands in an item: the count of a list in a sheet, where it starts, and where its window ends.
-#[derive(Drop)]
+#[derive(Clone, Copy)]
 pub struct Opened {
     pub count: usize,
     pub start: usize,
@@ -35,7 +35,7 @@ pub struct Opened {
 }
 
 // Whether something is there, and where to go on.
-#[derive(Drop)]
+#[derive(Clone, Copy)]
 pub struct Presence {
     pub there: bool,
     pub start: usize,

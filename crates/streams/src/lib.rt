@@ -7,7 +7,7 @@ ghost use Rattle.streams.specs.Input.{Reads, Filled};
 use libc::STDIN_FILENO;
 
 // What one read came to: so many bytes, the end of the input, or a failure.
-#[derive(Drop)]
+#[derive(Clone, Copy)]
 enum Read {
     More(usize),
     End,
@@ -15,7 +15,7 @@ enum Read {
 }
 
 // What reading the input came to: so many bytes, or a read that failed.
-#[derive(Drop)]
+#[derive(Clone, Copy)]
 pub enum Input {
     Bytes(usize),
     Failed,

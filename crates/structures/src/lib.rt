@@ -13,7 +13,7 @@ use tags::Tag;
 use terms::{Field, MAY_BE_EMPTY, MOST_ITEMS, NEVER_EMPTY};
 
 // A run of members.
-#[derive(Drop)]
+#[derive(Clone, Copy)]
 pub enum Row {
     Signature,
     SignedPart,
@@ -28,7 +28,7 @@ pub enum Row {
 }
 
 // An item that has a row, stands in a list or stands in a tag of its own.
-#[derive(Drop)]
+#[derive(Clone, Copy)]
 pub enum Structure {
     Signature,
     SignedPart,
@@ -51,7 +51,7 @@ pub enum Structure {
 }
 
 // How an item is built: its tag, and what stands in it. A list: whether it may be empty, the most items, their name, and an item.
-#[derive(Drop)]
+#[derive(Clone, Copy)]
 pub enum Build {
     Leaf(Primitive),
     Node(Tag, Row),

@@ -5,7 +5,7 @@ ghost use Rattle.std.specs.Prelude.{◌≡◌};
 ghost use Rattle.tags.specs.Tag.{tag_byte, Tells};
 
 // The tags of the rules.
-#[derive(Drop)]
+#[derive(Clone, Copy)]
 pub enum Tag {
     Boolean,
     Integer,
@@ -21,7 +21,7 @@ pub enum Tag {
 }
 
 // What a tag byte is: one of the rules' tags, or another.
-#[derive(Drop)]
+#[derive(Clone, Copy)]
 pub enum Tagged {
     Known(Tag),
     Other,

@@ -2,7 +2,7 @@
 // A list's items are counted by an index beside the name.
 #![tactic(auto)]
 
-#[derive(Drop)]
+#[derive(Clone, Copy)]
 pub enum Field {
     SealInformation,
     Header,

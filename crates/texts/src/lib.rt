@@ -12,7 +12,7 @@ use contents::Checked;
 use terms::{BAD_CHARACTER, NEVER_EMPTY, NO_BYTES, NOT_ES};
 
 // The alphabets of strings.
-#[derive(Drop)]
+#[derive(Clone, Copy)]
 enum Alphabet {
     Ia5,
     Printable,

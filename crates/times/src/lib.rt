@@ -42,7 +42,7 @@ const ZERO: u64 = 0x30;
 const NINE: u64 = 0x39;
 
 // A number that was read, or none.
-#[derive(Drop)]
+#[derive(Clone, Copy)]
 enum Parsed {
     Number(u64),
     Nothing,

@@ -3,21 +3,21 @@
 
 
 // Never revoked, or revoked at a time.
-#[derive(Drop)]
+#[derive(Clone, Copy)]
 pub enum Revocation {
     Never,
     At(u64),
 }
 
 // The first and the last time of a certificate.
-#[derive(Drop)]
+#[derive(Clone, Copy)]
 pub struct Dates {
     pub first: u64,
     pub last: u64,
 }
 
 // What was found of a certificate.
-#[derive(Drop)]
+#[derive(Clone, Copy)]
 pub struct CertificateFacts {
     pub chain: bool,
     pub usage: bool,
@@ -26,13 +26,13 @@ pub struct CertificateFacts {
 }
 
 // What was found of the seal: normal, or withdrawn at a time.
-#[derive(Drop)]
+#[derive(Clone, Copy)]
 pub struct SealFacts {
     pub withdrawn: Revocation,
 }
 
 // The stamp unchecked, bad, or good at a time.
-#[derive(Drop)]
+#[derive(Clone, Copy)]
 pub enum Stamping {
     Unchecked,
     Bad,
@@ -40,13 +40,13 @@ pub enum Stamping {
 }
 
 // What was found of the stamp.
-#[derive(Drop)]
+#[derive(Clone, Copy)]
 pub struct StampFacts {
     pub state: Stamping,
 }
 
 // The findings; the two digests, which are bytes, come beside them.
-#[derive(Drop)]
+#[derive(Clone, Copy)]
 pub struct Findings {
     pub signature: bool,
     pub sealing: bool,
@@ -58,7 +58,7 @@ pub struct Findings {
 }
 
 // A verdict: the number and whether the notice goes with it, or the refusal's number and place.
-#[derive(Drop)]
+#[derive(Clone, Copy)]
 pub enum Verdict {
     Judged(u8, bool),
     Refused(u8, usize),

@@ -1,0 +1,10 @@
+-- `texts::header_name`: the rule is that of the string, then the comparison with "ES".
+use Rattle.texts.specs.Laws.{header_text, header_rule}
+use borrow.Author.Rules.{rules}
+use Rattle.texts.proofs.header_name.Goals as goal
+
+pub returns-in_default : goal.returns-in_default
+returns-in_default c = search (rules, header_text)
+
+pub returns : goal.returns
+returns c = search (rules, header_rule)
