@@ -52,7 +52,7 @@ rows = Signature ∷ SignedPart ∷ Seal ∷ SealInformation ∷ Header ∷ Prop
 row_back : (x : Row) → row_in rows (first_in (row_of x)) ≡ some x
 unfolding first_in row_in rows pick
 row_back x =
-    elim x [ Signature ↦ refl | SignedPart ↦ refl | Seal ↦ refl | SealInformation ↦ refl | Header ↦ refl | Property ↦ refl | Digest ↦ refl | Picture ↦ refl | SealCustomItem ↦ refl | SignedCustomItem ↦ refl ]
+    elim x as (λ k. row_in rows (first_in (row_of k)) ≡ some k) [ Signature ↦ refl | SignedPart ↦ refl | Seal ↦ refl | SealInformation ↦ refl | Header ↦ refl | Property ↦ refl | Digest ↦ refl | Picture ↦ refl | SealCustomItem ↦ refl | SignedCustomItem ↦ refl ]
 
 pub row_one : (x y : Row) → row_of x ≡ row_of y → x ≡ y
 row_one x y e = let f : some x ≡ some y = sym (row_back x) ∙ ap (λ (r : Members). row_in rows (first_in r)) e ∙ row_back y in cc
