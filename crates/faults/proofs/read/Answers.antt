@@ -4,7 +4,7 @@ use Rattle.faults.specs.Laws.{fault_length, fault_refused, fault_nothing, fault_
 use Rattle.faults.proofs.read.Goals as goal
 
 pub returns-in-Next : goal.returns-in-Next
-returns-in-Next c = (search (rules, fault_length), (search (rules, fault_nothing), search (rules, fault_places)))
+returns-in-Next c = record { outcome_value = search (rules, fault_length); whose_value = search (rules, fault_nothing); placed = search (rules, fault_places) }
 
 pub returns-in-Refused : goal.returns-in-Refused
-returns-in-Refused c = (search (rules, fault_refused), (search (rules, fault_whose), search (rules, fault_places)))
+returns-in-Refused c = record { outcome_value = search (rules, fault_refused); whose_value = search (rules, fault_whose); placed = search (rules, fault_places) }
