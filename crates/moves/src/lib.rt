@@ -5,7 +5,7 @@
 ghost use Rattle.std.specs.Prelude.{◌≡◌, true, ◌&&◌, ◌≤◌, ltb, length, get_or, set};
 ghost use Rattle.tags.specs.Tag.{tag_byte};
 ghost use Rattle.structures.specs.Structure.{row_of, layout_of};
-ghost use Rattle.sides.specs.Move.{move as moveItem, moves, closing};
+ghost use Rattle.sides.specs.Move.{move as move_item, moves, closing};
 ghost use Rattle.stores.specs.Store.{cap, puts};
 ghost use Rattle.pieces.specs.Piece.{wrote};
 ghost use Rattle.moves.specs.Walk.{bare, inside, held_move, member_move, list_move, wrote_body, wrote_within};
@@ -50,7 +50,7 @@ pub fn item(
     most: usize,
     dst: &mut [u8],
 ) -> Moved
-    ensures { (result.next, result.to, dst.new) ≡ wrote_within most (moveItem from to (layout_of x) s.now at end) dst.old }
+    ensures { (result.next, result.to, dst.new) ≡ wrote_within most (move_item from to (layout_of x) s.now at end) dst.old }
 {
     let mut sizes = [0usize; SLOTS];
     let mut none = [0u8; 0];
@@ -143,7 +143,7 @@ fn noted(
     known: bool,
 ) -> Spot
     requires { Ready known (notes from to (layout_of x) s.now here.at end) sizes.old here.slot }
-    ensures dst_after { (result.at, result.pos, dst.new) ≡ wrote (moveItem from to (layout_of x) s.now here.at end) dst.old here.pos }
+    ensures dst_after { (result.at, result.pos, dst.new) ≡ wrote (move_item from to (layout_of x) s.now here.at end) dst.old here.pos }
     ensures sizes_after { (result.slot, sizes.new) ≡ puts (notes from to (layout_of x) s.now here.at end) sizes.old here.slot }
 {
     let b = structures::build_of(x);

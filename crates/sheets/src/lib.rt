@@ -6,7 +6,7 @@ ghost use Rattle.layouts.specs.Layout.{node};
 ghost use Rattle.layouts.specs.Whole.{sequence, told_outcome};
 ghost use Rattle.records.specs.Handing.{layout_of as recordLayout, fill_answer, fill_after, write_answer, write_after};
 ghost use Rattle.structures.specs.Structure.{layout_of};
-ghost use Rattle.sides.specs.Move.{move as moveItem};
+ghost use Rattle.sides.specs.Move.{move as move_item};
 ghost use Rattle.stores.specs.Store.{cap};
 ghost use Rattle.sheets.specs.Send.{sent, ends};
 
@@ -33,7 +33,7 @@ fn item_of(x: Record) -> Structure
 // An item of a source in the destination's form: it is measured first, and refused if it has more than `most` bytes, then if there is no room for it.
 fn send(s: &[u8], from: Side, to: Side, x: Structure, most: usize, dst: &mut [u8]) -> Outcome
     requires { most < cap }
-    ensures { (result, dst.new) ≡ ends (sent most (moveItem from to (layout_of x) s.now 0 (length s.now)).1 (length dst.old)) dst.old }
+    ensures { (result, dst.new) ≡ ends (sent most (move_item from to (layout_of x) s.now 0 (length s.now)).1 (length dst.old)) dst.old }
 {
     let m = moves::item(s, from, to, x, 0, s.len(), most, dst);
     let size = m.to;

@@ -1,0 +1,7 @@
+-- `fronts::count`: its four bytes in two goes.
+use Rattle.fronts.specs.Laws.{count-put}
+use borrow.Author.Rules.{rules}
+use Rattle.fronts.proofs.count.Goals as goal
+
+pub returns : goal.returns
+returns c = search (rules, count-put)
