@@ -1,7 +1,6 @@
 # What check-record, sheet-record and show-record share: streams, options, the program, what is said. Each of them sources this, with its own name in
 # `command`, its `usage`, and in `duration` how long its program takes to prove and build from nothing; the files are left as arguments.
-# The program is proved and built first if it is missing or older than the crates; it is run under the kit's loader, and on a processor other
-# than x86-64 under the kit's emulator.
+# The program is proved and built first if it is missing or older than the crates.
 # shellcheck shell=bash disable=SC2154,SC2034 # what is set here and there
 
 # Says something on standard error, if that can be.
@@ -34,34 +33,32 @@ esac
 [ "$*$input" != -closed ] || fail "(standard input): is closed"
 
 project=$(dirname "$(readlink -f "${BASH_SOURCE[0]}")")
-program=$project/target/bin/${command/-/_}
-stamp=$project/target/stamp/${command/-/_}
+crate=$project/crates/${command/-/_}
+program=$crate/out/${command/-/_}
 log=$project/target/$command.log
 
-command -v rt > /dev/null || fail "rt, the command of the Rattle kit, is missing"
-home=${RATTLE_HOME:-$(dirname "$(dirname "$(readlink -f "$(command -v rt)")")")}
-tools=$home/on/$(uname -m)/toolchain
-run=("$tools/lib/ld-linux-x86-64.so.2" --library-path "$tools/lib" /dev/fd/8)
-[ ! -x "$tools/bin/qemu-x86_64" ] || run=("$tools/bin/qemu-x86_64" "${run[@]}")
-[ -x "${run[0]}" ] || fail "${run[0]}: not there; the kit at $home has nothing for this machine"
+[ "$(uname -m)" = x86_64 ] || fail "this machine is $(uname -m), and the programs are built for x86-64"
+run=(/dev/fd/8)
 
-# Whether the program is there and nothing of the crates is newer. The stamp is what rt writes last, when all else is done.
+# Whether the program is there and nothing of the crates is newer; what rt makes of a crate, in its out/, does not count, nor that it makes that folder.
 is_fresh() {
-    [ -x "$program" ] && [ -f "$stamp" ] && [ -z "$(find "$project/crates" "$project/crates.txt" -newer "$stamp" -print -quit)" ]
+    [ -x "$program" ] &&
+        [ -z "$(cd "$project" && find crates.txt crates -regex 'crates/[^/]*/out' -prune -o -newer "$program" \( -type f -o -path 'crates/*/*' \) -print -quit)" ]
 }
 
-# Proves and builds the program. The stamp gets the time of the start, so that a crate that changes meanwhile is newer.
+# Proves and builds the program; rt runs it too, here on nothing. It gets the time of the start, so that a crate that changes meanwhile is newer.
 build() {
     local began
+    command -v rt > /dev/null || fail "rt, the command of the Rattle kit, is missing"
     began=$(date +%s.%N)
     { mkdir -p "$project/target" && : > "$log"; } 2> /dev/null ||
         fail "$project/target: cannot be written, and the program there is missing or older than the crates"
     say "proving and building the program, once: $duration from nothing (log: $log)"
-    if ! (cd "$project" && rt check "${command/-/_}") > "$log" 2>&1 < /dev/null; then
+    if ! (cd "$crate" && rt run -- "${run[@]:1}") > "$log" 2>&1 < /dev/null; then
         tail -n 20 "$log" >&2 || true
         fail "the program could not be built; $log has all that was said"
     fi
-    touch -d "@$began" "$stamp"
+    touch -d "@$began" "$program"
 }
 
 # Has the program open as 8. One build at a time: the lock is on the tree's folder itself, and the gate takes it for its own builds; once
@@ -100,5 +97,6 @@ hold() {
 # Says why there is no answer for a file, in the system's own words.
 complain() {
     local reason=${2##*: }
+    reason=${reason% (os error *)}
     say "$1: ${reason,}"
 }
