@@ -78,7 +78,7 @@ one_more_lem : (g : List ℕ) (k : Bool) (s : List ℕ) (e p : ℕ) (x rest : Li
     → (n : ℕ) (ys : List Entry) → listed_at g k s e n (p + length x) ≡ part_of (good (first (is_listed g) ys)) → listed_at g k s e (suc n) p ≡ part_of (good (first (is_listed g) (fs ++ ys)))
 unfolding listed_at pick
 one_more_lem g k s e p x rest name j fs c n ys r =
-    rw (lt-ltb p e c.begins, c.entry-is, c.holds, c.size, c.field ys) (picked (same g c.bytes) (entry name j c.start c.bytes) (listed_at g k s e n (p + length x)) (first (is_listed g) ys) r)
+    rw (lt-ltb p e c.begins, c.entry_is, c.holds, c.size, c.field ys) (picked (same g c.bytes) (entry name j c.start c.bytes) (listed_at g k s e n (p + length x)) (first (is_listed g) ys) r)
 
 -- entries to the end of a window
 module _ (g : List ℕ) (k : Bool) (s : List ℕ) (e : ℕ) (es : e ≤ length s) {A : Type 0} (enc : A → List ℕ) (f : ℕ → A → ℕ → List Entry) (name : Field)
