@@ -15,7 +15,7 @@ use Rattle.terms.specs.Laws.Answer.{test, is_true, is_false}
 use Rattle.terms.specs.Laws.Names.{code_below}
 use Rattle.heads.specs.Head.{forms, Cut, head, outermost, tlv}
 use Rattle.heads.specs.Scan.{seen, head_at, outermost_at, close_at}
-use Rattle.heads.specs.Laws.Head.{head_back, length-tlv, outermost_back}
+use Rattle.heads.proofs.Laws.Head.{head_back, length-tlv, outermost_back}
 use Rattle.heads.specs.declared.Step.{Step}
 use Rattle.heads.specs.declared.Step.TheVariants.{Next, Refused}
 use Rattle.contents.specs.Leaves.{Leaf, boolean}
@@ -29,9 +29,9 @@ use Rattle.layouts.specs.Marks.{free, filled, noted, notes, unblamed, blamed, bl
 use Rattle.layouts.specs.Passed.{of_read, passed_leaf, passed_many, passed, passed_all, passed_part, record_passed}
 use Rattle.layouts.specs.declared.Tally.{Tally}
 use Rattle.layouts.specs.declared.Tally.TheVariants.{Items, Refused as Uncounted}
-use Rattle.layouts.specs.Laws.Scan.{by_window, Onward, step, head-parts, leaf_parts, leaf_agree, begins-agree, enough-agree, item_on, part_on, scan-read, part-read}
-use Rattle.layouts.specs.Laws.Places.{blank, placed}
-use Rattle.layouts.specs.Laws.About.{not-enough}
+use Rattle.layouts.proofs.Laws.Scan.{by_window, Onward, step, head-parts, leaf_parts, leaf_agree, begins-agree, enough-agree, item_on, part_on, scan-read, part-read}
+use Rattle.layouts.proofs.Laws.Places.{blank, placed}
+use Rattle.layouts.proofs.Laws.About.{not-enough}
 
 -- ---- a table, and one that may have more behind it
 

@@ -14,8 +14,8 @@ use Rattle.heads.specs.Head.{forms, tlv, octets, before}
 use Rattle.layouts.specs.Layout.{node, Members, ◌▸◌, Member, one, Values, Part, All, Oks, OkPart, encodes, encode_part}
 use Rattle.layouts.specs.Fields.{Entry, run_fields, part_fields, fields, first}
 use Rattle.layouts.specs.Whole.{sequence, record_of}
-use Rattle.layouts.specs.Laws.Fields.{inside, past}
-use Rattle.layouts.specs.Laws.Each.{passes_all, passes_part, run_passes, part-passes}
+use Rattle.layouts.proofs.Laws.Fields.{inside, past}
+use Rattle.layouts.proofs.Laws.Each.{passes_all, passes_part, run_passes, part-passes}
 
 -- ---- the first of two lists
 

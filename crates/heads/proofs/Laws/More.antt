@@ -8,7 +8,7 @@ use Rattle.terms.specs.Answer.{Res, good, fault, pick, bind, unread, need, have,
 use Rattle.terms.specs.Digits.{is_byte, number, leading}
 use Rattle.terms.specs.Laws.Answer.{test, and_l, and_r, is_true, is_false}
 use Rattle.heads.specs.Head.{Form, forms, Size, sized, unspell, any_size, is_shortest, size, opening, Cut, cut_off, cut, outermost}
-use Rattle.heads.specs.Laws.Head.{opening_rest}
+use Rattle.heads.proofs.Laws.Head.{opening_rest}
 
 -- what was read, with more after it
 abbrev more_some : List ℕ → Option (ℕ × List ℕ) → Option (ℕ × List ℕ)

@@ -9,15 +9,15 @@ use Rattle.terms.specs.declared.Field.{Field}
 use Rattle.terms.specs.Numbers.{no_item}
 use Rattle.terms.specs.Answer.{Res, good, fault, Got, pick, need, enough}
 use Rattle.heads.specs.Head.{forms, Cut, head, outermost, tlv, octets, before}
-use Rattle.heads.specs.Laws.Head.{head_back, outermost_back}
+use Rattle.heads.proofs.Laws.Head.{head_back, outermost_back}
 use Rattle.contents.specs.Leaves.{Leaf, boolean}
 use Rattle.layouts.specs.Layout.{Item, leaf, node, list, wrap, Members, end, ◌▸◌, Member, known, one, maybe, flag, choose, tag_of, All, Ok, encode_leaf, encode, encode_part}
 use Rattle.layouts.specs.Reading.{next, read_leaf, begins, many, read, read_part}
 use Rattle.layouts.specs.Whole.{sequence}
 use Rattle.layouts.specs.Fields.{Entry, list_entry, start_of, Stands}
 use Rattle.layouts.specs.Passed.{of_read, passed_leaf, passed_many, passed, passed_all, passed_part, record_passed}
-use Rattle.layouts.specs.Laws.Reading.{Backward, leaf_back, leaf_next, backward, backward_part}
-use Rattle.layouts.specs.Laws.Fields.{all_append, inside, past, leaf_stands}
+use Rattle.layouts.proofs.Laws.Reading.{Backward, leaf_back, leaf_next, backward, backward_part}
+use Rattle.layouts.proofs.Laws.Fields.{all_append, inside, past, leaf_stands}
 
 module _ (s : List ℕ) where
   -- bytes that stand at `b`

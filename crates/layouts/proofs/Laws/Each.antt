@@ -15,7 +15,7 @@ use Rattle.contents.specs.Rules.{yes_byte, boolean_rule}
 use Rattle.contents.specs.Leaves.{Leaf, rule_of, boolean}
 use Rattle.layouts.specs.Layout.{Item, leaf, node, list, wrap, Members, end, ◌▸◌, Member, known, one, maybe, flag, choose, Value, Values, Part, All, InOption, InEither, Ok, Oks, OkPart, each, encode_leaf, encode, encodes, encode_part}
 use Rattle.layouts.specs.Fields.{Entry, entry, list_entry, start_of, each_fields, option_fields, either_fields, flag_fields, item_fields, run_fields, part_fields, fields}
-use Rattle.layouts.specs.Laws.Fields.{all_append}
+use Rattle.layouts.proofs.Laws.Fields.{all_append}
 
 -- a test of each primitive item under its name, and of the name of each item with parts
 module _ (t : Field → Leaf → Bool) (u : Field → Bool) where

@@ -18,16 +18,16 @@ use Rattle.heads.specs.Scan.{head_at, begins_at}
 use Rattle.heads.specs.declared.Seen.TheVariants.{Item as At}
 use Rattle.contents.specs.Integer.{section_bytes, shrink, unstretch}
 use Rattle.contents.specs.Leaves.{Holding, bytes, number, Leaf, value_in, boolean, Known, only}
-use Rattle.contents.specs.Laws.Leaves.{by_judge}
+use Rattle.contents.proofs.Laws.Leaves.{by_judge}
 use Rattle.layouts.specs.Layout.{Item, leaf, node, list, wrap, Members, end, ◌▸◌, Member, known, one, maybe, flag, choose, tag_of, Value, Values, Part, each, option, either, encode}
 use Rattle.layouts.specs.Reading.{next, read_leaf, begins, many, read_option, read_flag, read_either, read, reads, read_part}
 use Rattle.layouts.specs.Sheet.{count_bytes, count, section, critical_in, sheet_option, sheet_list, sheet, sheet_part, read_count, read_section, fill_leaf, times, fill_flag, fill_option, fill_list, fill, fills, fill_part}
 use Rattle.layouts.specs.SheetScan.{count_at, section_at, value_at as inSection}
 use Rattle.layouts.specs.declared.Tally.TheVariants.{Items}
-use Rattle.layouts.specs.Laws.Reading.{behind_back, finish_back}
-use Rattle.layouts.specs.Laws.Scan.{Onward, onward, by_window, head-parts, leaf_parts, begins-agree, item_on, part_on}
-use Rattle.layouts.specs.Laws.Sheet.{count_back, length-count, section_back, unfilled, unfilled_part}
-use Rattle.layouts.specs.Laws.SheetScan.{shrink_last, section-parts}
+use Rattle.layouts.proofs.Laws.Reading.{behind_back, finish_back}
+use Rattle.layouts.proofs.Laws.Scan.{Onward, onward, by_window, head-parts, leaf_parts, begins-agree, item_on, part_on}
+use Rattle.layouts.proofs.Laws.Sheet.{count_back, length-count, section_back, unfilled, unfilled_part}
+use Rattle.layouts.proofs.Laws.SheetScan.{shrink_last, section-parts}
 use Rattle.sides.specs.declared.Side.{Side}
 use Rattle.sides.specs.declared.Side.TheVariants.{Record, Sheet}
 use Rattle.sides.specs.Move.{bytes_of, bytes_of_all, bytes_of_part, span_at, value_at, open_at, present_at, flag_at, known_at, leaf_out, front, mark, flag_out, known_out, Moved, Body, join_body, move_many, move_option, move_leaf, move_known, move_flag, move, moves, move_part}

@@ -14,8 +14,8 @@ use Rattle.terms.specs.Laws.Answer.{never, test, by_bind, is_true, is_false}
 use Rattle.terms.specs.Laws.Names.{name_code}
 use Rattle.heads.specs.Head.{forms, Cut, outermost}
 use Rattle.heads.specs.Scan.{seen, head_at, outermost_at}
-use Rattle.heads.specs.Laws.Head.{outermost_back}
-use Rattle.heads.specs.Laws.More.{inside-more}
+use Rattle.heads.proofs.Laws.Head.{outermost_back}
+use Rattle.heads.proofs.Laws.More.{inside-more}
 use Rattle.heads.specs.declared.Step.{Step}
 use Rattle.heads.specs.declared.Step.TheVariants.{Next, Refused}
 use Rattle.contents.specs.Leaves.{Leaf, boolean, only}
@@ -30,9 +30,9 @@ use Rattle.layouts.specs.declared.Tally.{Tally}
 use Rattle.layouts.specs.declared.Tally.TheVariants.{Items, Refused as Uncounted}
 use Rattle.layouts.specs.declared.Whose.{Whose}
 use Rattle.layouts.specs.declared.Whose.TheVariants.{Nothing, Record, Field as field}
-use Rattle.layouts.specs.Laws.Scan.{by_window, Onward, step, whole, head-parts, leaf_parts, leaf_agree, begins-agree, enough-agree, close_agree, item_on, part_on, scan-read, scans-read, part-read, whole-accept}
-use Rattle.layouts.specs.Laws.Whole.{accept-more}
-use Rattle.layouts.specs.Laws.Places.{noted-size, noted-behind}
+use Rattle.layouts.proofs.Laws.Scan.{by_window, Onward, step, whole, head-parts, leaf_parts, leaf_agree, begins-agree, enough-agree, close_agree, item_on, part_on, scan-read, scans-read, part-read, whole-accept}
+use Rattle.layouts.proofs.Laws.Whole.{accept-more}
+use Rattle.layouts.proofs.Laws.Places.{noted-size, noted-behind}
 
 -- ---- what stands behind the table
 

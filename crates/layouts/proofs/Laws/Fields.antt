@@ -9,7 +9,7 @@ use Rattle.terms.specs.Laws.Answer.{test, both, pick_yes, pick_no}
 use Rattle.heads.specs.Head.{forms, tlv, octets, before}
 use Rattle.contents.specs.Rules.{yes_byte}
 use Rattle.contents.specs.Leaves.{Leaf, boolean}
-use Rattle.contents.specs.Laws.Leaves.{IsBytes, section_is_value}
+use Rattle.contents.proofs.Laws.Leaves.{IsBytes, section_is_value}
 use Rattle.layouts.specs.Layout.{Item, leaf, node, list, wrap, Members, end, ◌▸◌, Member, known, one, maybe, flag, choose, Values, All, each, option, either, encode_leaf, critical, encode, encodes, encode_part}
 use Rattle.layouts.specs.Fields.{Entry, entry, start_of, each_fields, option_fields, either_fields, flag_fields, item_fields, run_fields, part_fields, fields, Stands, first}
 use Rattle.layouts.specs.Sheet.{section, sheet}

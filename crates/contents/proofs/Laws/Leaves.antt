@@ -8,7 +8,7 @@ use Rattle.contents.specs.Content.{Check, fine, wrong, ask, passes, judge}
 use Rattle.contents.specs.Integer.{shortest, well_formed, widest}
 use Rattle.contents.specs.Rules.{integer_rule}
 use Rattle.contents.specs.Leaves.{Holding, bytes, number, rule_of, section_of, value_in}
-use Rattle.contents.specs.Laws.Integer.{stretch-there, stretch_back, stretch_near}
+use Rattle.contents.proofs.Laws.Integer.{stretch-there, stretch_back, stretch_near}
 
 -- ---- what a rule went through
 

@@ -10,7 +10,7 @@ use Rattle.terms.specs.Answer.{good, fault, every, pick}
 use Rattle.terms.specs.Laws.Answer.{never, and_l, and_r, pick_yes, pick_no}
 use Rattle.layouts.specs.Layout.{Values, All}
 use Rattle.layouts.specs.Fields.{first}
-use Rattle.layouts.specs.Laws.Fields.{None, First, Sought, first-sought, first_holds}
+use Rattle.layouts.proofs.Laws.Fields.{None, First, Sought, first-sought, first_holds}
 use Rattle.verdicts.specs.Findings.{all_real}
 use Rattle.verdicts.specs.Verdict.{Step, or_else, first_failing, Facts, facts_of, stamped, Rulebook, signature_rules, seal_rules, judged, weigh}
 use Rattle.verdicts.specs.declared.Findings.{Findings}

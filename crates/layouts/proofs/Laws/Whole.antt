@@ -10,14 +10,14 @@ use Rattle.terms.specs.Numbers.{done, left_over, bad_sheet, no_room}
 use Rattle.terms.specs.Answer.{Res, good, fault, Got, got, bind, need, same, finish, Told, told_one, refusal, answered}
 use Rattle.terms.specs.Laws.Answer.{good_inj, and_r, by_bind, need_eq}
 use Rattle.heads.specs.Head.{forms, Cut, tlv, before, outermost}
-use Rattle.heads.specs.Laws.Head.{length-tlv, head_back, outermost-tlv, outermost_back, unspelled}
-use Rattle.heads.specs.Laws.More.{more_cut, outermost-more}
+use Rattle.heads.proofs.Laws.Head.{length-tlv, head_back, outermost-tlv, outermost_back, unspelled}
+use Rattle.heads.proofs.Laws.More.{more_cut, outermost-more}
 use Rattle.layouts.specs.Layout.{Members, node, Values, Oks, encode, encodes}
 use Rattle.layouts.specs.Reading.{next, reads}
 use Rattle.layouts.specs.Sheet.{sheet, sheets}
 use Rattle.layouts.specs.Whole.{sequence, record_of, record_at, accept, accept_sheet, fit, stored}
-use Rattle.layouts.specs.Laws.Reading.{clear, clears, spare, forwards, backwards, finish_back}
-use Rattle.layouts.specs.Laws.Sheet.{uncounted, filleds, unfilleds, short}
+use Rattle.layouts.proofs.Laws.Reading.{clear, clears, spare, forwards, backwards, finish_back}
+use Rattle.layouts.proofs.Laws.Sheet.{uncounted, filleds, unfilleds, short}
 
 -- where a byte is left, more are left
 some_left : {A : Type 0} (n : ℕ) (v : A) (w z : List ℕ) (p : ℕ) → 1 ≤ length w → finish n (got v (w ++ z) p) ≡ finish n (got v w p)

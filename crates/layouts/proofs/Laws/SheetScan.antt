@@ -22,7 +22,7 @@ use Rattle.contents.specs.Integer.{section_bytes, well_formed, value, sign_of, s
 use Rattle.contents.specs.Rules.{integer_rule}
 use Rattle.contents.specs.Leaves.{Holding, bytes, number, Leaf, rule_of, value_in}
 use Rattle.contents.specs.Scan.{checked, checked_at}
-use Rattle.contents.specs.Laws.Integer.{shrink_back}
+use Rattle.contents.proofs.Laws.Integer.{shrink_back}
 use Rattle.layouts.specs.Layout.{Item, leaf, node, list, wrap, Members, end, ◌▸◌, Member, known, one, maybe, flag, choose, Value, Part}
 use Rattle.layouts.specs.Reading.{next, read_either}
 use Rattle.layouts.specs.Sheet.{count_bytes, count, section, sheet, sheets, sheet_part, read_count, read_section, fill_leaf, times, critical_in, fill_flag, fill_option, fill_list, fill, fills, fill_part}
@@ -31,8 +31,8 @@ use Rattle.layouts.specs.Scan.{then_seen, then_judge, judged_at}
 use Rattle.layouts.specs.SheetScan.{counted, count_at, then_count, within_of, list_count_at, section_at, value_at, leaf_section_at, flag_section_at, times_scan, sheet_scan, sheet_scans, sheet_scan_part, whole_sheet_scan}
 use Rattle.layouts.specs.declared.Tally.{Tally}
 use Rattle.layouts.specs.declared.Tally.TheVariants.{Items, Refused as Uncounted}
-use Rattle.layouts.specs.Laws.Sheet.{count_back, length-count, length-section, section_back, unfilled, unfilleds, unfilled_part}
-use Rattle.layouts.specs.Laws.Scan.{rest_slice, front-slice, onward, by_window, out, step, whole, seen-bind, out-bind, out-map, out-need, out-pick, choose_read}
+use Rattle.layouts.proofs.Laws.Sheet.{count_back, length-count, length-section, section_back, unfilled, unfilleds, unfilled_part}
+use Rattle.layouts.proofs.Laws.Scan.{rest_slice, front-slice, onward, by_window, out, step, whole, seen-bind, out-bind, out-map, out-need, out-pick, choose_read}
 
 -- ---- an integer's value in its section
 

@@ -14,7 +14,7 @@ use Rattle.terms.specs.Answer.{Res, good, fault, Got, got, pick, bind, need, eno
 use Rattle.terms.specs.Laws.Answer.{good_inj, test, is_true, is_false, by_bind, need_eq}
 use Rattle.heads.specs.Head.{forms, Cut, cut_off, head, outermost, tlv, octets}
 use Rattle.heads.specs.Scan.{seen, past_of, head_at, outermost_at, begins_at, close_at}
-use Rattle.heads.specs.Laws.Head.{head_back, outermost_back}
+use Rattle.heads.proofs.Laws.Head.{head_back, outermost_back}
 use Rattle.heads.specs.declared.Seen.{Seen}
 use Rattle.heads.specs.declared.Seen.TheVariants.{Item as At, Refused as Bad}
 use Rattle.heads.specs.declared.Step.{Step}
@@ -22,12 +22,12 @@ use Rattle.heads.specs.declared.Step.TheVariants.{Next, Refused}
 use Rattle.contents.specs.Content.{Check, fine, wrong, judge}
 use Rattle.contents.specs.Leaves.{Leaf, rule_of, boolean, only}
 use Rattle.contents.specs.Scan.{checked, checked_at, behind_at, content_at}
-use Rattle.contents.specs.Laws.Leaves.{by_judge}
+use Rattle.contents.proofs.Laws.Leaves.{by_judge}
 use Rattle.layouts.specs.Layout.{Item, leaf, node, list, wrap, Members, end, ◌▸◌, Member, known, one, maybe, flag, choose, tag_of, Value, Values, Part, encode, encode_part}
 use Rattle.layouts.specs.Whole.{sequence, record_at, accept}
 use Rattle.layouts.specs.Reading.{next, behind, read_leaf, begins, many, read_option, read_flag, read_either, read, reads, read_part}
 use Rattle.layouts.specs.Scan.{then_seen, then_step, judged_at, then_judge, leaf_at, scan_many, scan, scans, scan_part, record_scan, whole_scan}
-use Rattle.layouts.specs.Laws.Reading.{behind_back, backward, backward_part}
+use Rattle.layouts.proofs.Laws.Reading.{behind_back, backward, backward_part}
 
 -- ---- windows of a slice
 

@@ -12,11 +12,11 @@ use Rattle.terms.specs.Numbers.{left_over}
 use Rattle.terms.specs.Answer.{Res, good, Got, got, pick, bind, need, enough, same, finish}
 use Rattle.terms.specs.Laws.Answer.{never, clash, good_inj, test, and_l, and_r, is_true, is_false, pick_yes, pick_no, by_bind, by_need, same_eq, same_refl}
 use Rattle.heads.specs.Head.{forms, Cut, cut_off, tlv, octets, before}
-use Rattle.heads.specs.Laws.Head.{head-tlv, head_back, length-tlv, unspelled}
+use Rattle.heads.proofs.Laws.Head.{head-tlv, head_back, length-tlv, unspelled}
 use Rattle.contents.specs.Content.{Check, fine, wrong, ask, judge, passes}
 use Rattle.contents.specs.Leaves.{Leaf, rule_of, boolean, known_rule, only}
 use Rattle.contents.specs.Rules.{yes_byte, boolean_rule, also, only_rule}
-use Rattle.contents.specs.Laws.Leaves.{by_judge, by_ask, passed}
+use Rattle.contents.proofs.Laws.Leaves.{by_judge, by_ask, passed}
 use Rattle.layouts.specs.Layout.{Item, leaf, node, list, wrap, Members, end, ◌▸◌, Member, known, one, maybe, flag, choose, tag_of, Value, Values, Part, All, InOption, InEither, Ok, Oks, OkPart, each, option, either, encode_leaf, critical, encode, encodes, encode_part}
 use Rattle.layouts.specs.Fields.{start_of}
 use Rattle.layouts.specs.Reading.{next, behind, read_leaf, begins, many, read_option, read_flag, read_either, read, reads, read_part}

@@ -11,8 +11,8 @@ use Rattle.terms.specs.Numbers.{left_over, no_item}
 use Rattle.terms.specs.Answer.{Res, good, Got, got, pick, bind, enough}
 use Rattle.terms.specs.Laws.Answer.{clash, good_inj, by_bind, by_need, need_eq}
 use Rattle.heads.specs.Head.{Cut, tlv, before}
-use Rattle.heads.specs.Laws.Head.{head_back, outermost_back}
-use Rattle.heads.specs.Laws.More.{inside-more}
+use Rattle.heads.proofs.Laws.Head.{head_back, outermost_back}
+use Rattle.heads.proofs.Laws.More.{inside-more}
 use Rattle.contents.specs.Leaves.{Leaf, boolean}
 use Rattle.layouts.specs.Layout.{Item, leaf, node, list, wrap, Members, end, ◌▸◌, Member, known, one, maybe, flag, choose, tag_of, Values, Ok, encode}
 use Rattle.layouts.specs.Reading.{next, read_leaf, begins, many, read_option, read_flag, read_either, read, reads, read_part}
@@ -21,9 +21,9 @@ use Rattle.layouts.specs.Fields.{Entry, entry, start_of, each_fields, option_fie
 use Rattle.layouts.specs.Places.{table_size, wanted_at, Placed}
 use Rattle.layouts.specs.Marks.{record_marks}
 use Rattle.layouts.specs.Passed.{passed_leaf, passed_many, passed, passed_all, passed_part, record_passed}
-use Rattle.layouts.specs.Laws.Reading.{Backward, leaf_back, leaf_next, many_back, yes_back, finish_back, backward, backwards, backward_part}
-use Rattle.layouts.specs.Laws.Places.{blank}
-use Rattle.layouts.specs.Laws.Passed.{passed_placed, placed_whole}
+use Rattle.layouts.proofs.Laws.Reading.{Backward, leaf_back, leaf_next, many_back, yes_back, finish_back, backward, backwards, backward_part}
+use Rattle.layouts.proofs.Laws.Places.{blank}
+use Rattle.layouts.proofs.Laws.Passed.{passed_placed, placed_whole}
 
 -- what `p` passes is what `f` says of the value that `g` reads
 abbrev Passes : {A : Type 0} → (List ℕ → ℕ → Res (Got A)) → (List ℕ → ℕ → List Entry) → (A → ℕ → List Entry) → Type 0

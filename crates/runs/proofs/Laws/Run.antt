@@ -12,11 +12,11 @@ use Rattle.terms.specs.Numbers.{largest_record, done, run_end}
 use Rattle.terms.specs.Answer.{Res, good, fault, Got, got, bind, Told, told_one, told_two, told_none}
 use Rattle.terms.specs.Laws.Answer.{never, pick_yes, by_bind}
 use Rattle.heads.specs.Head.{forms, tlv, octets}
-use Rattle.heads.specs.Laws.Head.{length-tlv}
+use Rattle.heads.proofs.Laws.Head.{length-tlv}
 use Rattle.layouts.specs.Layout.{Members, Values, All, each, encodes}
 use Rattle.layouts.specs.Whole.{sequence, record_of, Allowed, record_at}
-use Rattle.layouts.specs.Laws.Reading.{clears}
-use Rattle.layouts.specs.Laws.Whole.{record_at_back, record_at-there}
+use Rattle.layouts.proofs.Laws.Reading.{clears}
+use Rattle.layouts.proofs.Laws.Whole.{record_at_back, record_at-there}
 use Rattle.runs.specs.Run.{run_of, Ran, whole, stopped, and_then, onward, run_from, read_run, told_ran, run_answer, Reader, here_in, here_at, at, made, top, one_more, step_after, step_answer, step_part, refusal_after}
 
 -- a value whose record is accepted

@@ -14,14 +14,14 @@ use Rattle.terms.specs.Answer.{Res, good, Got, got, pick, bind, need, have, enou
 use Rattle.terms.specs.Laws.Answer.{never, good_inj, test, and_l, and_r, pick_yes, pick_no, by_bind, by_need, by_have, same_eq}
 use Rattle.terms.specs.Laws.Digits.{leading-there, leading_back, length_digits}
 use Rattle.heads.specs.Head.{Cut, cut_off, tlv}
-use Rattle.heads.specs.Laws.Head.{length-tlv, octets_some, unspelled}
+use Rattle.heads.proofs.Laws.Head.{length-tlv, octets_some, unspelled}
 use Rattle.contents.specs.Content.{fine, judge}
 use Rattle.contents.specs.Leaves.{Leaf, rule_of, section_of}
-use Rattle.contents.specs.Laws.Leaves.{by_judge, value_there, value_back, section_near}
+use Rattle.contents.proofs.Laws.Leaves.{by_judge, value_there, value_back, section_near}
 use Rattle.layouts.specs.Layout.{Item, leaf, node, list, wrap, Members, end, ◌▸◌, Member, known, one, maybe, flag, choose, All, InOption, Ok, Oks, OkPart, each, option, either, encode_leaf, critical, encode, encodes, encode_part}
 use Rattle.layouts.specs.Reading.{next}
 use Rattle.layouts.specs.Sheet.{count_bytes, count, section, critical_byte, sheet_option, sheet_list, sheet, sheets, sheet_part, read_count, read_section, fill_leaf, times, critical_in, fill_flag, fill_option, fill_list, fill, fills, fill_part}
-use Rattle.layouts.specs.Laws.Reading.{tells, spare, clear, clears, clear_part, Forward, Written, Backward, glue, either_forward, either_back}
+use Rattle.layouts.proofs.Laws.Reading.{tells, spare, clear, clears, clear_part, Forward, Written, Backward, glue, either_forward, either_back}
 
 -- ---- counts and sections
 
