@@ -5,5 +5,4 @@ pub mod Time
 pub mod Rules
 pub mod Leaves
 pub mod Scan
-pub mod Laws
 pub mod Examples

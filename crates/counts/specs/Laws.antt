@@ -16,8 +16,8 @@ use Rattle.layouts.specs.Sheet.{count_bytes, count, read_count, read_section}
 use Rattle.layouts.specs.SheetScan.{counted, count_at, list_count_at, section_at}
 use Rattle.layouts.specs.declared.Tally.{Tally}
 use Rattle.layouts.specs.declared.Tally.TheVariants.{Items, Refused as Uncounted}
-use Rattle.layouts.specs.Laws.Scan.{rest_slice}
-use Rattle.layouts.specs.Laws.Sheet.{count_back, length-count}
+use Rattle.layouts.proofs.Laws.Scan.{rest_slice}
+use Rattle.layouts.proofs.Laws.Sheet.{count_back, length-count}
 
 -- ---- a count
 

@@ -16,9 +16,9 @@ use Rattle.layouts.specs.Places.{table_size, wanted_at, Placed}
 use Rattle.layouts.specs.Whole.{told_outcome}
 use Rattle.layouts.specs.About.{record_about}
 use Rattle.layouts.specs.Passed.{record_passed}
-use Rattle.layouts.specs.Laws.About.{whose_by, Fresh, about-told, about_nothing}
-use Rattle.layouts.specs.Laws.Passed.{Front, passed_placed}
-use Rattle.layouts.specs.Laws.Places.{blank}
+use Rattle.layouts.proofs.Laws.About.{whose_by, Fresh, about-told, about_nothing}
+use Rattle.layouts.proofs.Laws.Passed.{Front, passed_placed}
+use Rattle.layouts.proofs.Laws.Places.{blank}
 use Rattle.layouts.specs.declared.Outcome.TheVariants.{Length, Refused as Unread}
 use Rattle.layouts.specs.declared.Whose.{Whose}
 use Rattle.layouts.specs.declared.Whose.TheVariants.{Nothing, Record, Field as field}

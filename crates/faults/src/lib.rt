@@ -8,7 +8,7 @@ ghost use Rattle.layouts.specs.Places.{table_size, Placed};
 ghost use Rattle.layouts.specs.Whole.{told_outcome};
 ghost use Rattle.layouts.specs.About.{record_about};
 ghost use Rattle.layouts.specs.Passed.{record_passed};
-ghost use Rattle.layouts.specs.Laws.About.{whose_by};
+ghost use Rattle.layouts.proofs.Laws.About.{whose_by};
 ghost use Rattle.layouts.specs.declared.Whose.TheVariants.{Record as TheRecord};
 ghost use Rattle.records.specs.Handing.{layout_of, record_answer};
 ghost use Rattle.faults.specs.Laws.{room_for};

@@ -11,10 +11,10 @@ use Rattle.terms.specs.Answer.{Res, good, fault, bind, pick, answered}
 use Rattle.terms.specs.Laws.Answer.{never, good_inj}
 use Rattle.layouts.specs.Layout.{Members, Values, Oks}
 use Rattle.layouts.specs.Fields.{Entry, fields, is_field, first, Stands}
-use Rattle.layouts.specs.Laws.Fields.{First, fields_stand, stands_within, stands_cut, first-sought, first_holds}
+use Rattle.layouts.proofs.Laws.Fields.{First, fields_stand, stands_within, stands_cut, first-sought, first_holds}
 use Rattle.layouts.specs.Places.{under, numbers_of, Placed}
 use Rattle.layouts.specs.Whole.{accept, record_of, told_outcome}
-use Rattle.layouts.specs.Laws.Whole.{accept_back}
+use Rattle.layouts.proofs.Laws.Whole.{accept_back}
 use Rattle.layouts.specs.declared.Outcome.{Outcome}
 use Rattle.layouts.specs.declared.Outcome.TheVariants.{Length, Refused as Unread}
 use Rattle.records.specs.declared.Part.{Part}

@@ -15,10 +15,10 @@ use Rattle.contents.specs.Integer.{says_kind1}
 use Rattle.contents.specs.Time.{moment_of}
 use Rattle.layouts.specs.Layout.{Members, Values, All}
 use Rattle.layouts.specs.Fields.{Entry, fields, is_field, first, Stands, bytes_in, is_there}
-use Rattle.layouts.specs.Laws.Fields.{Sought, fields_stand, stands_within, stands_cut, first-sought, first_holds}
+use Rattle.layouts.proofs.Laws.Fields.{Sought, fields_stand, stands_within, stands_cut, first-sought, first_holds}
 use Rattle.layouts.specs.Places.{Placed}
 use Rattle.layouts.specs.Whole.{accept, told_outcome}
-use Rattle.layouts.specs.Laws.Whole.{accept_back}
+use Rattle.layouts.proofs.Laws.Whole.{accept_back}
 use Rattle.layouts.specs.declared.Outcome.{Outcome}
 use Rattle.layouts.specs.declared.Outcome.TheVariants.{Length, Refused as Unread}
 use Rattle.records.specs.declared.Record.{Record}

@@ -17,7 +17,7 @@ use Rattle.terms.specs.Laws.Digits.{leading-there, digits_number, number_small}
 use Rattle.terms.specs.Laws.Answer.{never, test, pick_yes, pick_no, pick_lt, pick_ge, bind_eq}
 use Rattle.heads.specs.Head as Head
 use Rattle.heads.specs.Head.{forms, spell, octets, Size, sized, unspell, any_size, is_shortest, size, opening, Cut, before, cut, head, outermost}
-use Rattle.heads.specs.Laws.Head.{unspelled, octets_below, opening_rest}
+use Rattle.heads.proofs.Laws.Head.{unspelled, octets_below, opening_rest}
 use Rattle.heads.specs.Scan.{seen, head_at, outermost_at}
 use Rattle.windows.specs.Window.{clamp}
 use Rattle.windows.specs.Laws.Window.{slice-clamp, clamp_in, byte_at, nothing_at}

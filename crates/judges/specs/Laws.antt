@@ -15,7 +15,7 @@ use Rattle.verdicts.specs.declared.Findings.{Findings}
 use Rattle.verdicts.specs.declared.Stamping.TheVariants.{Unchecked, Bad, Good}
 use Rattle.verdicts.specs.declared.Verdict.{Verdict}
 use Rattle.verdicts.specs.declared.Verdict.TheVariants.{Judged, Refused}
-use Rattle.verdicts.specs.Laws.Verdict.{takes_notice, signature-notice, seal-notice}
+use Rattle.verdicts.proofs.Laws.Verdict.{takes_notice, signature-notice, seal-notice}
 use Rattle.verdicts.specs.Findings.{between, within_dates, revoked_by, in_force, withdrawn_by, sound, at_stamp, all_real}
 use Rattle.verdicts.specs.Verdict.{Step, Facts, facts_of, Rulebook, or_else, first_failing, in_period, maker_out, judged, weigh, verdict, signature_rules, seal_rules}
 use Rattle.grounds.specs.declared.Grounds.{Grounds}

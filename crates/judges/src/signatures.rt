@@ -2,7 +2,7 @@
 ghost use Rattle.std.specs.Prelude.{◌≡◌, [], ◌∷◌};
 ghost use Rattle.terms.specs.Numbers.{signer_bad, outside_dates, signer_revoked, digest_differs, stamp_bad, after_stamp, signer_out_at_stamp};
 ghost use Rattle.verdicts.specs.Verdict.{signature_rules, maker_out};
-ghost use Rattle.verdicts.specs.Laws.Verdict.{takes_notice};
+ghost use Rattle.verdicts.proofs.Laws.Verdict.{takes_notice};
 ghost use Rattle.judges.specs.Step.{Of, Comes, Numbers, Judges, Weighs};
 
 use crate::{Check, steps};

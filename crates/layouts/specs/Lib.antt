@@ -9,5 +9,4 @@ pub mod Scan
 pub mod SheetScan
 pub mod Places
 pub mod Marks
-pub mod Laws
 pub mod Examples

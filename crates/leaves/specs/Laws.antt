@@ -6,7 +6,7 @@ use Rattle.std.specs.Int.{w64}
 use Rattle.terms.specs.Answer.{Res, good, fault, never_empty}
 use Rattle.terms.specs.Laws.Answer.{never}
 use Rattle.heads.specs.Head.{forms, Cut, head, tlv, before}
-use Rattle.heads.specs.Laws.Head.{head_back, length-tlv}
+use Rattle.heads.proofs.Laws.Head.{head_back, length-tlv}
 use Rattle.heads.specs.Scan.{seen, head_at}
 use Rattle.heads.specs.declared.Seen.{Seen}
 use Rattle.heads.specs.declared.Seen.TheVariants.{Item, Refused as Bad}

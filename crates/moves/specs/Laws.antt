@@ -16,7 +16,7 @@ use Rattle.terms.specs.declared.Field.{Field}
 use Rattle.terms.specs.Answer.{pick}
 use Rattle.terms.specs.Laws.Answer.{never, test}
 use Rattle.heads.specs.Head.{forms, octets, spell}
-use Rattle.heads.specs.Laws.Head.{unspelled}
+use Rattle.heads.proofs.Laws.Head.{unspelled}
 use Rattle.tags.specs.declared.Tag.{Tag}
 use Rattle.tags.specs.Tag.{tag_byte}
 use Rattle.layouts.specs.Layout.{Item, node, list, wrap, Members, tag_of}

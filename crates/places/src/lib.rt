@@ -4,7 +4,7 @@
 
 ghost use Rattle.std.specs.Prelude.{◌≡◌, ◌+◌, ◌-◌, ◌<◌, ◌&&◌, length as size, eqb};
 ghost use Rattle.layouts.specs.Places.{table_size, wanted};
-ghost use Rattle.layouts.specs.Laws.Places.{blank as blankTable};
+ghost use Rattle.layouts.proofs.Laws.Places.{blank as blankTable};
 ghost use Rattle.layouts.specs.Marks.{free, filled, noted};
 
 use slots::NUMBERS_EACH;

@@ -6,7 +6,7 @@ use Rattle.std.specs.Borrow.{Bor}
 use Rattle.terms.specs.Answer.{Told, gives, refuses}
 use Rattle.layouts.specs.Fields.{Entry}
 use Rattle.layouts.specs.Places.{table_size, Placed}
-use Rattle.layouts.specs.Laws.Places.{placed_once}
+use Rattle.layouts.proofs.Laws.Places.{placed_once}
 use Rattle.layouts.specs.Whole.{told_outcome}
 use Rattle.layouts.specs.declared.Outcome.{Outcome}
 use Rattle.layouts.specs.declared.Outcome.TheVariants.{Length, Refused as NotDone}

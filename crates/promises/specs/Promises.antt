@@ -13,7 +13,7 @@ use Rattle.terms.specs.Answer.{Res, good, fault, Got, got, bind, need, every, an
 use Rattle.terms.specs.Laws.Answer.{good_inj, and_r, bind_eq, need_eq}
 use Rattle.terms.specs.Digits.{is_byte}
 use Rattle.contents.specs.Integer.{value, content_of, well_formed, Fits, eight, stretch}
-use Rattle.contents.specs.Laws.Integer.{value-content_of, content_of-value, content_of-well_formed, eight-stretch}
+use Rattle.contents.proofs.Laws.Integer.{value-content_of, content_of-value, content_of-well_formed, eight-stretch}
 use Rattle.layouts.specs.Layout.{node, Members, Values, Oks, All}
 use Rattle.layouts.specs.Sheet.{sheets}
 use Rattle.layouts.specs.Whole.{sequence, record_of, Allowed, record_at, accept_sheet, fill_sheet, write_record}
@@ -22,13 +22,13 @@ use Rattle.layouts.specs.Places.{under, numbers_of, Placed}
 use Rattle.layouts.specs.About.{record_about}
 use Rattle.layouts.specs.Passed.{record_passed}
 use Rattle.layouts.specs.declared.Whose.TheVariants.{Nothing}
-use Rattle.layouts.specs.Laws.About as About
-use Rattle.layouts.specs.Laws.Passing as Passing
-use Rattle.layouts.specs.Laws.Stand as Stand
-use Rattle.layouts.specs.Laws.Reading.{clear, clears, spare}
-use Rattle.layouts.specs.Laws.Whole.{Wrote, Kept}
-use Rattle.layouts.specs.Laws.Whole as Whole
-use Rattle.layouts.specs.Laws.Fields.{None, First, fields_stand, stands_cut, first-sought, first_holds}
+use Rattle.layouts.proofs.Laws.About as About
+use Rattle.layouts.proofs.Laws.Passing as Passing
+use Rattle.layouts.proofs.Laws.Stand as Stand
+use Rattle.layouts.proofs.Laws.Reading.{clear, clears, spare}
+use Rattle.layouts.proofs.Laws.Whole.{Wrote, Kept}
+use Rattle.layouts.proofs.Laws.Whole as Whole
+use Rattle.layouts.proofs.Laws.Fields.{None, First, fields_stand, stands_cut, first-sought, first_holds}
 use Rattle.records.specs.Record.{seal_information, seal, signed_part, signature}
 use Rattle.records.specs.Part.{PartOf, Lies}
 use Rattle.records.specs.Handing.{read_record, record_answer, fields_in, seek, handed_out, fill_answer, fill_after, write_answer, write_after, is_among, told_place, part_names, field_answer, is_listed, match_answer, integer_names, value_answer, is_owner, told_critical, critical_answer, list_names, count_answer, signed_bytes, information_of, signed_part_of, seal_of}
@@ -36,11 +36,11 @@ use Rattle.records.specs.Laws.Record as Record
 use Rattle.records.specs.Laws.Handing.{Tells}
 use Rattle.records.specs.Laws.Handing as Handing
 use Rattle.runs.specs.Run.{run_of, Ran, whole, stopped, read_run, run_answer, Reader, at, made, here_at, top, one_more, step_after, step_answer, refusal_after}
-use Rattle.runs.specs.Laws.Run as Runs
+use Rattle.runs.proofs.Laws.Run as Runs
 use Rattle.verdicts.specs.Verdict.{Step, first_failing, Facts, facts_of, stamped, Rulebook, signature_rules, seal_rules, maker_out, judged, verdict, told_verdict}
 use Rattle.verdicts.specs.Findings.{all_real}
-use Rattle.verdicts.specs.Laws.Verdict.{FirstFailing, is_of_stamp, unstamped_steps, takes_notice}
-use Rattle.verdicts.specs.Laws.Verdict as Verdict
+use Rattle.verdicts.proofs.Laws.Verdict.{FirstFailing, is_of_stamp, unstamped_steps, takes_notice}
+use Rattle.verdicts.proofs.Laws.Verdict as Verdict
 use Rattle.verdicts.specs.declared.Findings.{Findings}
 
 -- The layouts that the promises are about: what may be missing in them cannot be mistaken for what follows, what is known is inside its

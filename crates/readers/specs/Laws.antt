@@ -9,14 +9,14 @@ use Rattle.heads.specs.declared.Step.{Step}
 use Rattle.heads.specs.declared.Step.TheVariants.{Next, Refused}
 use Rattle.layouts.specs.Layout.{Members, Values}
 use Rattle.layouts.specs.Scan.{whole_scan}
-use Rattle.layouts.specs.Laws.Scan.{whole, whole-accept}
+use Rattle.layouts.proofs.Laws.Scan.{whole, whole-accept}
 use Rattle.layouts.specs.Whole.{accept, told_outcome}
 use Rattle.layouts.specs.declared.Outcome.{Outcome}
 use Rattle.records.specs.Handing.{told_record, fields_of}
 use Rattle.layouts.specs.Places.{Placed}
 use Rattle.layouts.specs.Marks.{notes, record_marks}
-use Rattle.layouts.specs.Laws.Places.{blank, placed}
-use Rattle.layouts.specs.Laws.Passing.{accepted_placed}
+use Rattle.layouts.proofs.Laws.Places.{blank, placed}
+use Rattle.layouts.proofs.Laws.Passing.{accepted_placed}
 use Rattle.walks.specs.Walk.{record_walk}
 use Rattle.entries.specs.Laws.{answers, tables}
 use Rattle.outcomes.specs.Outcome.{outcome_of}

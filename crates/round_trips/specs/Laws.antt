@@ -10,8 +10,8 @@ use Rattle.terms.specs.Laws.Answer.{never, good_inj, and_r, by_bind, by_need, bi
 use Rattle.layouts.specs.Layout.{node}
 use Rattle.layouts.specs.Sheet.{sheets}
 use Rattle.layouts.specs.Whole.{sequence, record_of, fit, fill_sheet, write_record, stored, told_outcome}
-use Rattle.layouts.specs.Laws.Reading.{clear, clears, spare}
-use Rattle.layouts.specs.Laws.Whole.{accept_back, accept-there, sheet_back, sheet-taken}
+use Rattle.layouts.proofs.Laws.Reading.{clear, clears, spare}
+use Rattle.layouts.proofs.Laws.Whole.{accept_back, accept-there, sheet_back, sheet-taken}
 use Rattle.layouts.specs.declared.Outcome.{Outcome}
 use Rattle.layouts.specs.declared.Outcome.TheVariants.{Length, Refused}
 use Rattle.records.specs.declared.Record.{Record}

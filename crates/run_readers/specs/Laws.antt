@@ -11,7 +11,7 @@ use Rattle.layouts.specs.Layout.{Members, Values}
 use Rattle.layouts.specs.Whole.{record_of}
 use Rattle.records.specs.Part.{PartOf}
 use Rattle.runs.specs.Run.{here_at, at, told_here, part_here, step_answer, step_part, told_stepped, handed_record}
-use Rattle.runs.specs.Laws.Run.{here_back, record_some}
+use Rattle.runs.proofs.Laws.Run.{here_back, record_some}
 use Rattle.runs.specs.declared.Stepped.{Stepped}
 use Rattle.runs.specs.declared.Stepped.TheVariants.{Record, End, Refused}
 use Rattle.fields.specs.Handed.{within}

@@ -15,12 +15,12 @@ use Rattle.heads.specs.declared.Step.TheVariants.{Next, Refused}
 use Rattle.layouts.specs.Layout.{Members, Values}
 use Rattle.layouts.specs.Whole.{record_of, record_at}
 use Rattle.layouts.specs.Scan.{record_scan}
-use Rattle.layouts.specs.Laws.Scan.{record_read}
-use Rattle.layouts.specs.Laws.Scan as Scan
+use Rattle.layouts.proofs.Laws.Scan.{record_read}
+use Rattle.layouts.proofs.Laws.Scan as Scan
 use Rattle.walks.specs.Walk.{record_walk}
 use Rattle.entries.specs.Laws.{answers}
 use Rattle.runs.specs.Run.{Ran, whole, stopped, and_then, onward, run_from, read_run, run_answer, here_in, here_at, at, one_more, step_answer, step_after, told_stepped, told_counted, told_ran}
-use Rattle.runs.specs.Laws.Run.{enough, record_some, here_end, here-inside, here_back, step-ends, step-faults}
+use Rattle.runs.proofs.Laws.Run.{enough, record_some, here_end, here-inside, here_back, step-ends, step-faults}
 use Rattle.runs.specs.declared.Stepped.TheVariants.{Record, End, Refused as StepRefused}
 use Rattle.runs.specs.declared.Counted.TheVariants.{Records, Refused as RunRefused}
 use Rattle.run_walks.specs.Walk.{run_at, told_behind}

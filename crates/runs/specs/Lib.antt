@@ -1,3 +1,2 @@
 pub mod Run
-pub mod Laws
 pub mod Examples

@@ -25,8 +25,8 @@ use Rattle.layouts.specs.Sheet.{count_bytes}
 use Rattle.layouts.specs.SheetScan.{count_at, within_of, list_count_at, leaf_section_at, flag_section_at, times_scan, sheet_scan, sheet_scans, whole_sheet_scan}
 use Rattle.layouts.specs.declared.Tally.{Tally}
 use Rattle.layouts.specs.declared.Tally.TheVariants.{Items, Refused as Uncounted}
-use Rattle.layouts.specs.Laws.Scan.{whole, passed}
-use Rattle.layouts.specs.Laws.SheetScan.{sheet-accept}
+use Rattle.layouts.proofs.Laws.Scan.{whole, passed}
+use Rattle.layouts.proofs.Laws.SheetScan.{sheet-accept}
 use Rattle.primitives.specs.declared.Content.{Content}
 use Rattle.primitives.specs.declared.Primitive.{Primitive}
 use Rattle.primitives.specs.declared.Word.{Word}

@@ -4,7 +4,7 @@
 ghost use Rattle.std.specs.Prelude.{◌≡◌, length};
 ghost use Rattle.layouts.specs.Whole.{accept_sheet};
 ghost use Rattle.layouts.specs.SheetScan.{sheet_scan, sheet_scans};
-ghost use Rattle.layouts.specs.Laws.Scan.{whole};
+ghost use Rattle.layouts.proofs.Laws.Scan.{whole};
 ghost use Rattle.structures.specs.Structure.{row_of, layout_of};
 ghost use Rattle.sheet_walks.specs.Walk.{member_walk, list_walk};
 

@@ -12,17 +12,17 @@ use Rattle.terms.specs.Numbers.{too_large, no_room, bad_sheet, left_over, larges
 use Rattle.terms.specs.Answer.{Res, good, fault, Got, got, bind, need, answered}
 use Rattle.terms.specs.Laws.Answer.{never, good_inj, by_bind, bind_eq, test}
 use Rattle.heads.specs.Head.{Cut, forms, head}
-use Rattle.heads.specs.Laws.Head.{unspelled, outermost_back}
+use Rattle.heads.proofs.Laws.Head.{unspelled, outermost_back}
 use Rattle.heads.specs.declared.Step.{Step}
 use Rattle.heads.specs.declared.Step.TheVariants.{Next, Refused}
 use Rattle.layouts.specs.Layout.{Item, node, Members, Values, encode}
 use Rattle.layouts.specs.Reading.{next, read, reads}
 use Rattle.layouts.specs.Sheet.{sheet, sheets, fill, fills}
 use Rattle.layouts.specs.Whole.{sequence, record_of, record_at, accept, accept_sheet, fit, fill_sheet, write_record, stored, told_outcome}
-use Rattle.layouts.specs.Laws.Reading.{clear, finish_back}
-use Rattle.layouts.specs.Laws.Scan.{whole}
-use Rattle.layouts.specs.Laws.Sheet.{short}
-use Rattle.layouts.specs.Laws.Whole.{accept_back}
+use Rattle.layouts.proofs.Laws.Reading.{clear, finish_back}
+use Rattle.layouts.proofs.Laws.Scan.{whole}
+use Rattle.layouts.proofs.Laws.Sheet.{short}
+use Rattle.layouts.proofs.Laws.Whole.{accept_back}
 use Rattle.layouts.specs.declared.Outcome.{Outcome}
 use Rattle.layouts.specs.declared.Outcome.TheVariants.{Length, Refused as Denied}
 use Rattle.records.specs.declared.Record.{Record}
@@ -34,7 +34,7 @@ use Rattle.structures.specs.Structure.{layout_of as item_of}
 use Rattle.sides.specs.declared.Side.{Side}
 use Rattle.sides.specs.declared.Side.TheVariants as side
 use Rattle.sides.specs.Move.{Moved, move}
-use Rattle.sides.specs.Laws.Move.{move_read, move_fill}
+use Rattle.sides.proofs.Laws.Move.{move_read, move_fill}
 use Rattle.stores.specs.Store.{cap, advance}
 use Rattle.stores.specs.Laws.Store.{advance-small, advance-full, put_start}
 use Rattle.moves.specs.Walk.{wrote_within}

@@ -1,2 +1,1 @@
 pub mod Move
-pub mod Laws

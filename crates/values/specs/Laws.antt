@@ -15,7 +15,7 @@ use Rattle.numbers.specs.Number.{number_of, number_at}
 use Rattle.numbers.specs.declared.Number.{Number as Read}
 use Rattle.numbers.specs.declared.Number.TheVariants.{Value as Good, Bad}
 use Rattle.layouts.specs.Fields.{Entry, is_field}
-use Rattle.layouts.specs.Laws.Fields.{first_holds}
+use Rattle.layouts.proofs.Laws.Fields.{first_holds}
 use Rattle.records.specs.declared.Record.{Record}
 use Rattle.records.specs.declared.Part.{Part}
 use Rattle.records.specs.declared.Part.TheVariants.{There, Absent as NoPart, Refused as PartRefused}

@@ -1,4 +1,3 @@
 pub mod Findings
 pub mod Verdict
-pub mod Laws
 pub mod Examples

@@ -25,7 +25,7 @@ use Rattle.contents.specs.Leaves.{Leaf, only}
 use Rattle.layouts.specs.Layout.{Item, leaf, list, Members, Member as Part, tag_of}
 use Rattle.layouts.specs.Scan.{then_seen, then_step, then_judge, leaf_at, scan_many, scan, record_scan}
 use Rattle.layouts.specs.Whole.{sequence}
-use Rattle.layouts.specs.Laws.Scan.{passed}
+use Rattle.layouts.proofs.Laws.Scan.{passed}
 use Rattle.primitives.specs.declared.Content.{Content}
 use Rattle.primitives.specs.declared.Primitive.{Primitive}
 use Rattle.primitives.specs.declared.Primitive.TheVariants as primitive

@@ -16,7 +16,7 @@ use Rattle.terms.specs.Numbers.{most_items, largest_record}
 use Rattle.terms.specs.Answer.{good, pick, same, never_empty}
 use Rattle.terms.specs.Laws.Answer.{and_l, or_r, is_true, is_false}
 use Rattle.heads.specs.Head.{forms, tlv, before, cut_off, head}
-use Rattle.heads.specs.Laws.Head.{unspelled, head-tlv, length-tlv}
+use Rattle.heads.proofs.Laws.Head.{unspelled, head-tlv, length-tlv}
 use Rattle.heads.specs.Scan.{seen, head_at}
 use Rattle.heads.specs.declared.Seen.TheVariants.{Item as At}
 use Rattle.contents.specs.Integer.{is_kind, says_kind1}
@@ -24,11 +24,11 @@ use Rattle.contents.specs.Leaves.{Leaf, integer, octet_string}
 use Rattle.layouts.specs.Layout.{Item, leaf, node, list, Members, Value, Values, All, InEither, Ok, each, either, encode_leaf, encode, encode_part}
 use Rattle.layouts.specs.Fields.{Entry, entry, list_entry, start_of, each_fields, either_fields, item_fields, part_fields, fields, is_field, first, Stands}
 use Rattle.layouts.specs.Places.{Placed}
-use Rattle.layouts.specs.Laws.Fields.{stands_within, stands_cut, all_append, past, leaf_stands}
-use Rattle.layouts.specs.Laws.Way.{first_skip, first_stop, Asks, Holds}
-use Rattle.layouts.specs.Laws.Scan.{head-parts}
+use Rattle.layouts.proofs.Laws.Fields.{stands_within, stands_cut, all_append, past, leaf_stands}
+use Rattle.layouts.proofs.Laws.Way.{first_skip, first_stop, Asks, Holds}
+use Rattle.layouts.proofs.Laws.Scan.{head-parts}
 use Rattle.layouts.specs.Whole.{sequence, accept, told_outcome}
-use Rattle.layouts.specs.Laws.Whole.{accept_back}
+use Rattle.layouts.proofs.Laws.Whole.{accept_back}
 use Rattle.layouts.specs.declared.Outcome.{Outcome}
 use Rattle.layouts.specs.declared.Outcome.TheVariants.{Length, Refused as Unread}
 use Rattle.records.specs.Record.{digest, certificates, digests, kind_and_list}

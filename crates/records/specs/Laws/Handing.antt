@@ -16,11 +16,11 @@ use Rattle.contents.specs.Content.{fine}
 use Rattle.contents.specs.Integer.{well_formed}
 use Rattle.contents.specs.Rules.{integer_rule}
 use Rattle.contents.specs.Leaves.{Leaf, Holding, bytes, number, rule_of}
-use Rattle.contents.specs.Laws.Leaves.{by_ask}
+use Rattle.contents.proofs.Laws.Leaves.{by_ask}
 use Rattle.layouts.specs.Layout.{Members, Values, Oks, All}
 use Rattle.layouts.specs.Fields.{Entry, fields, Stands, is_field, first}
-use Rattle.layouts.specs.Laws.Fields.{stands_cut, None, First, Sought, first-sought, first_holds}
-use Rattle.layouts.specs.Laws.Each.{passes, passes_all, fields_pass}
+use Rattle.layouts.proofs.Laws.Fields.{stands_cut, None, First, Sought, first-sought, first_holds}
+use Rattle.layouts.proofs.Laws.Each.{passes, passes_all, fields_pass}
 use Rattle.records.specs.declared.Record.{Record}
 use Rattle.records.specs.declared.Record.TheVariants.{Seal, Signature}
 use Rattle.records.specs.Part.{PartOf, Lies}

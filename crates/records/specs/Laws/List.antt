@@ -5,8 +5,8 @@ use Rattle.terms.specs.declared.Field.TheVariants.{CertificateList, ListKind, Li
 use Rattle.layouts.specs.Layout.{Members, Values, Oks}
 use Rattle.layouts.specs.Fields.{fields}
 use Rattle.layouts.specs.Whole.{record_of}
-use Rattle.layouts.specs.Laws.Each.{passes}
-use Rattle.layouts.specs.Laws.Way.{Way, here, beyond, in_tag, Holds, held_in}
+use Rattle.layouts.proofs.Laws.Each.{passes}
+use Rattle.layouts.proofs.Laws.Way.{Way, here, beyond, in_tag, Holds, held_in}
 use Rattle.records.specs.declared.Record.{Record}
 use Rattle.records.specs.declared.Record.TheVariants.{Seal, Signature}
 use Rattle.records.specs.Record.{kind_and_list, property, seal}

@@ -10,7 +10,7 @@ use Rattle.terms.specs.Answer.{Res, good, pick, enough, same}
 use Rattle.terms.specs.Laws.Answer.{good_inj, and_l, and_r}
 use Rattle.terms.specs.Digits.{number_from}
 use Rattle.heads.specs.Head.{forms, Cut, cut_off, tlv, before, head}
-use Rattle.heads.specs.Laws.Head.{length-tlv, head-tlv, unspelled}
+use Rattle.heads.proofs.Laws.Head.{length-tlv, head-tlv, unspelled}
 use Rattle.contents.specs.Content.{ask, passes}
 use Rattle.contents.specs.Integer.{sign, shortest, well_formed, value, turned}
 use Rattle.contents.specs.Text.{within, starts, follows, text_from}
@@ -19,8 +19,8 @@ use Rattle.layouts.specs.Layout.{node, Members, ◌▸◌, one, Values, encode, 
 use Rattle.layouts.specs.Sheet.{sheet, sheets}
 use Rattle.layouts.specs.Whole.{sequence, record_of}
 use Rattle.layouts.specs.Fields.{item_fields, fields, is_field, first, bytes_in}
-use Rattle.layouts.specs.Laws.Reading.{clear, clears, apart, tells, spare, injective}
-use Rattle.layouts.specs.Laws.Whole.{accept_back}
+use Rattle.layouts.proofs.Laws.Reading.{clear, clears, apart, tells, spare, injective}
+use Rattle.layouts.proofs.Laws.Whole.{accept_back}
 use Rattle.records.specs.Record.{seal_information, seal, signed_part, signature}
 use Rattle.records.specs.Handing.{read_record, signed_bytes, information_of, signed_part_of, seal_of}
 
