@@ -2,37 +2,30 @@
 #![tactic(auto)]
 
 use layouts::Outcome;
-use libc::STDOUT_FILENO;
+use std::io;
+use std::process::ExitCode;
 use streams::Input;
 
-// The line of a refusal.
-fn print_refusal(number: u8, place: usize) {
-    io::write_all(STDOUT_FILENO, b"REFUSED ");
-    io::print_decimal(STDOUT_FILENO, number as u64);
-    io::write_all(STDOUT_FILENO, b" ");
-    io::print_decimal(STDOUT_FILENO, place as u64);
-    io::write_all(STDOUT_FILENO, b"\n");
-}
-
-// The line of an outcome.
-fn print(outcome: Outcome) {
+// Prints the line of an outcome.
+fn print(rt: &impl Print, outcome: Outcome) -> io::Result<()> {
     match outcome {
-        Outcome::Length(n) => {
-            io::write_all(STDOUT_FILENO, b"ACCEPTED ");
-            io::print_decimal(STDOUT_FILENO, n as u64);
-            io::write_all(STDOUT_FILENO, b"\n");
-        }
-        Outcome::Refused(number, place) => print_refusal(number, place),
+        Outcome::Length(n) => println!(rt; "ACCEPTED {n}"),
+        Outcome::Refused(number, place) => println!(rt; "REFUSED {number} {place}"),
     }
 }
 
-// Reads the input into a buffer and prints its line. The buffer has room for the largest record and one byte more; what follows that
-// changes no answer.
-fn main() {
+// Reads the input into a buffer and prints its line, or says on standard error why it cannot be read. The buffer has room for the largest
+// record and one byte more; what follows that changes no answer.
+fn main(rt: HostRuntime) -> io::Result<ExitCode> {
     let mut input = [0u8; 65536];
-    let Input::Bytes(n) = streams::fill(&mut input) else {
-        os::fail(b"read");
-        return;
-    };
-    print(readers::check_signature(&input[..n]));
+    match streams::fill(&mut rt.stdin(), &mut input) {
+        Input::Bytes(n) => {
+            print(&rt, readers::check_signature(&input[..n]))?;
+            Ok(ExitCode::SUCCESS)
+        }
+        Input::Failed(e) => {
+            eprintln!(rt; "read: {e}")?;
+            Ok(ExitCode::FAILURE)
+        }
+    }
 }

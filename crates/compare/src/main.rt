@@ -4,9 +4,10 @@
 ghost use Rattle.std.specs.Prelude.{◌<◌};
 
 use layouts::Outcome;
-use libc::{STDIN_FILENO, STDOUT_FILENO};
 use records::{Critical, Items, Number, Part, Record};
 use runs::{Counted, Stepped};
+use std::io;
+use std::io::{BufWriter, Read, Write};
 use terms::Field;
 use verdicts::{
     CertificateFacts, Dates, Findings, Revocation, SealFacts, StampFacts, Stamping, Verdict,
@@ -55,12 +56,9 @@ fn wide(b: u8) -> u64
 
 // The number that so many first bytes make; of more than eight the last eight count.
 fn number(s: &[u8], n: usize) -> u64 {
-    let w = windows::window(s, 0, n);
     let mut value: u64 = 0;
-    let mut i = 0;
-    while i < w.len() {
-        value = (value << 8) | wide(w[i]);
-        i += 1;
+    for b in windows::window(s, 0, n) {
+        value = (value << 8) | wide(*b);
     }
     value
 }
@@ -136,118 +134,80 @@ fn findings(s: &[u8]) -> Findings {
 
 // Lines.
 
-// Some text.
-fn print(text: &[u8]) {
-    io::write_all(STDOUT_FILENO, text);
-}
-
-// A space and a number.
-fn print_number(n: u64) {
-    print(b" ");
-    io::print_decimal(STDOUT_FILENO, n);
-}
-
-// A word and a number.
-fn print_one(word: &[u8], n: u64) {
-    print(word);
-    print_number(n);
-}
-
-// A word and two numbers.
-fn print_two(word: &[u8], a: u64, b: u64) {
-    print_one(word, a);
-    print_number(b);
-}
-
 // A refusal.
-fn print_refused(number: u8, place: usize) {
-    print_two(b"REFUSED", number as u64, place as u64);
-}
-
-// A value.
-fn print_value(v: i64) {
-    print(b"VALUE ");
-    let n = number(&numerals::eight(v), 8);
-    if v < 0 {
-        print(b"-");
-        io::print_decimal(STDOUT_FILENO, std::num::wrapping_sub_u64(0, n));
-        return;
-    }
-    io::print_decimal(STDOUT_FILENO, n);
+fn print_refused(out: &mut impl Write, number: u8, place: usize) -> io::Result<()> {
+    write!(out, "REFUSED {number} {place}")
 }
 
 // Where a part lies; whether there is one.
-fn print_part(p: Part) -> bool {
+fn print_part(out: &mut impl Write, p: Part) -> io::Result<bool> {
     match p {
         Part::There { start, length } => {
-            print_two(b"PART", start as u64, length as u64);
-            true
+            write!(out, "PART {start} {length}")?;
+            Ok(true)
         }
         Part::Absent => {
-            print(b"ABSENT");
-            false
+            write!(out, "ABSENT")?;
+            Ok(false)
         }
         Part::Refused(number, place) => {
-            print_refused(number, place);
-            false
+            print_refused(out, number, place)?;
+            Ok(false)
         }
     }
 }
 
 // An integer; whether there is one.
-fn print_integer(x: Number) -> bool {
+fn print_integer(out: &mut impl Write, x: Number) -> io::Result<bool> {
     match x {
         Number::Value(v) => {
-            print_value(v);
-            true
+            write!(out, "VALUE {v}")?;
+            Ok(true)
         }
         Number::Absent => {
-            print(b"ABSENT");
-            false
+            write!(out, "ABSENT")?;
+            Ok(false)
         }
         Number::Refused(number, place) => {
-            print_refused(number, place);
-            false
+            print_refused(out, number, place)?;
+            Ok(false)
         }
     }
 }
 
 // Whether an item is critical, as 0 or 1; whether there is one.
-fn print_critical(x: Critical) -> bool {
+fn print_critical(out: &mut impl Write, x: Critical) -> io::Result<bool> {
     match x {
         Critical::Is(is) => {
-            if is {
-                print_value(1);
-            } else {
-                print_value(0);
-            }
-            true
+            let v = u8::from(is);
+            write!(out, "VALUE {v}")?;
+            Ok(true)
         }
         Critical::Absent => {
-            print(b"ABSENT");
-            false
+            write!(out, "ABSENT")?;
+            Ok(false)
         }
         Critical::Refused(number, place) => {
-            print_refused(number, place);
-            false
+            print_refused(out, number, place)?;
+            Ok(false)
         }
     }
 }
 
 // How many items there are; whether there is a list.
-fn print_items(x: Items) -> bool {
+fn print_items(out: &mut impl Write, x: Items) -> io::Result<bool> {
     match x {
         Items::Count(n) => {
-            print_one(b"VALUE", n as u64);
-            true
+            write!(out, "VALUE {n}")?;
+            Ok(true)
         }
         Items::Absent => {
-            print(b"ABSENT");
-            false
+            write!(out, "ABSENT")?;
+            Ok(false)
         }
         Items::Refused(number, place) => {
-            print_refused(number, place);
-            false
+            print_refused(out, number, place)?;
+            Ok(false)
         }
     }
 }
@@ -255,90 +215,87 @@ fn print_items(x: Items) -> bool {
 // Questions.
 
 // A record read.
-fn answer_check(s: &[u8], x: Record) {
-    let outcome = readers::check(s, structures::row_of(x), terms::LARGEST_RECORD);
-    match outcome {
-        Outcome::Length(n) => print_one(b"ACCEPTED", n as u64),
-        Outcome::Refused(number, place) => print_refused(number, place),
+fn answer_check(out: &mut impl Write, s: &[u8], x: Record) -> io::Result<()> {
+    match readers::check(s, structures::row_of(x), terms::LARGEST_RECORD) {
+        Outcome::Length(n) => write!(out, "ACCEPTED {n}"),
+        Outcome::Refused(number, place) => print_refused(out, number, place),
     }
 }
 
 // A whole run.
-fn answer_run(s: &[u8]) {
-    let counted = run_walks::whole(s, Record::Signature);
-    match counted {
-        Counted::Records(n) => print_one(b"RECORDS", n),
+fn answer_run(out: &mut impl Write, s: &[u8]) -> io::Result<()> {
+    match run_walks::whole(s, Record::Signature) {
+        Counted::Records(n) => write!(out, "RECORDS {n}"),
         Counted::Refused(number, place, records) => {
-            print_refused(number, place);
-            print_one(b" AFTER", records);
+            print_refused(out, number, place)?;
+            write!(out, " AFTER {records}")
         }
     }
 }
 
 // One step of a run.
-fn answer_step(s: &[u8], position: usize, handed: u64) {
+fn answer_step(out: &mut impl Write, s: &[u8], position: usize, handed: u64) -> io::Result<()> {
     let moved = run_walks::step(s, Record::Signature, position, handed);
-    let answer = moved.answer;
-    match answer {
-        Stepped::Record { start, length } => print_two(b"RECORD", start as u64, length as u64),
-        Stepped::End => print(b"END"),
+    match moved.answer {
+        Stepped::Record { start, length } => write!(out, "RECORD {start} {length}")?,
+        Stepped::End => write!(out, "END")?,
         Stepped::Refused(number, place, records) => {
-            print_refused(number, place);
-            print_one(b" AFTER", records);
+            print_refused(out, number, place)?;
+            write!(out, " AFTER {records}")?;
         }
     }
-    print_one(b" POSITION", moved.position as u64);
-    print_one(b" NUMBER", moved.handed);
+    let position = moved.position;
+    let handed = moved.handed;
+    write!(out, " POSITION {position} NUMBER {handed}")
 }
 
 // A destination's sum.
 fn sum(s: &[u8]) -> u64 {
     let mut total: u64 = 0;
-    let mut i = 0;
-    while i < s.len() {
-        total = ((total % 4294967291) * 257 + wide(s[i]) + 1) % 4294967291;
-        i += 1;
+    for b in s {
+        total = ((total % 4294967291) * 257 + wide(*b) + 1) % 4294967291;
     }
     total
 }
 
 // How many bytes were written or why none were, and the destination's sum.
-fn print_written(outcome: Outcome, dst: &[u8]) {
+fn print_written(out: &mut impl Write, outcome: Outcome, dst: &[u8]) -> io::Result<()> {
     match outcome {
-        Outcome::Length(n) => print_one(b"WROTE", n as u64),
-        Outcome::Refused(number, place) => print_refused(number, place),
+        Outcome::Length(n) => write!(out, "WROTE {n}")?,
+        Outcome::Refused(number, place) => print_refused(out, number, place)?,
     }
-    print_one(b" SUM", sum(dst));
+    let total = sum(dst);
+    write!(out, " SUM {total}")
 }
 
 // A sheet filled from a record.
-fn fill(s: &[u8], x: Record, sheet: &mut [u8]) {
+fn fill(out: &mut impl Write, s: &[u8], x: Record, sheet: &mut [u8]) -> io::Result<()> {
     let outcome = sheets::fill(s, x, sheet);
-    print_written(outcome, sheet);
+    print_written(out, outcome, sheet)
 }
 
 // A sheet filled from a record, in a destination of a size.
-fn answer_fill(s: &[u8], x: Record, size: usize) {
-    let mut space = [0xA5u8; 70000];
-    let sheet: &mut [u8] = &mut space;
-    if size <= sheet.len() {
-        fill(s, x, &mut sheet[..size]);
+fn answer_fill(out: &mut impl Write, s: &[u8], x: Record, size: usize) -> io::Result<()> {
+    let mut space = [0xA5u8; LARGEST];
+    if size <= space.len() {
+        fill(out, s, x, &mut space[..size])?;
     }
+    Ok(())
 }
 
 // A record written from a sheet.
-fn write(s: &[u8], x: Record, record: &mut [u8]) {
+fn write(out: &mut impl Write, s: &[u8], x: Record, record: &mut [u8]) -> io::Result<()> {
     let outcome = sheets::write(s, x, record);
-    print_written(outcome, record);
+    print_written(out, outcome, record)
 }
 
 // A record written from a sheet, in a destination of a size.
-fn answer_write(s: &[u8], x: Record, size: usize) {
-    let mut space = [0xA5u8; 70000];
-    let record: &mut [u8] = &mut space;
-    if size <= record.len() {
-        write(s, x, &mut record[..size]);
+fn answer_write(out: &mut impl Write, s: &[u8], x: Record, size: usize) -> io::Result<()> {
+    let mut space = [0xA5u8; LARGEST];
+    if size <= space.len() {
+        write(out, s, x, &mut space[..size])?;
     }
+    Ok(())
 }
 
 // What a code asks for.
@@ -401,81 +358,88 @@ fn is_indexed(code: u8) -> bool {
 }
 
 // One field; whether there is one.
-fn answer_field(s: &[u8], x: Record, code: u8, index: usize) -> bool {
-    let a = wanted_by(code);
-    match a {
-        Wanted::Place(f) => print_part(fields::find(s, x, f, index)),
-        Wanted::SealType => print_integer(values::seal_type(s, x)),
-        Wanted::ListKind => print_integer(values::list_kind(s, x)),
-        Wanted::Width => print_integer(values::width(s, x)),
-        Wanted::Height => print_integer(values::height(s, x)),
-        Wanted::SealCritical => print_critical(lists::seal_custom_critical(s, x, index)),
-        Wanted::SignedCritical => print_critical(lists::signed_custom_critical(s, index)),
-        Wanted::Listed => print_items(lists::listed_count(s, x)),
-        Wanted::SealItems => print_items(lists::seal_custom_count(s, x)),
-        Wanted::SignedItems => print_items(lists::signed_custom_count(s)),
-        Wanted::Nothing => false,
+fn answer_field(
+    out: &mut impl Write,
+    s: &[u8],
+    x: Record,
+    code: u8,
+    index: usize,
+) -> io::Result<bool> {
+    match wanted_by(code) {
+        Wanted::Place(f) => print_part(out, fields::find(s, x, f, index)),
+        Wanted::SealType => print_integer(out, values::seal_type(s, x)),
+        Wanted::ListKind => print_integer(out, values::list_kind(s, x)),
+        Wanted::Width => print_integer(out, values::width(s, x)),
+        Wanted::Height => print_integer(out, values::height(s, x)),
+        Wanted::SealCritical => print_critical(out, lists::seal_custom_critical(s, x, index)),
+        Wanted::SignedCritical => print_critical(out, lists::signed_custom_critical(s, index)),
+        Wanted::Listed => print_items(out, lists::listed_count(s, x)),
+        Wanted::SealItems => print_items(out, lists::seal_custom_count(s, x)),
+        Wanted::SignedItems => print_items(out, lists::signed_custom_count(s)),
+        Wanted::Nothing => Ok(false),
     }
 }
 
 // A field by each index, from 0 to the first that is not there.
-fn answer_items(s: &[u8], x: Record, code: u8) {
-    let mut index = 0;
-    while index < LARGEST {
-        if !answer_field(s, x, code, index) {
-            return;
+fn answer_items(out: &mut impl Write, s: &[u8], x: Record, code: u8) -> io::Result<()> {
+    for index in 0..LARGEST {
+        if !answer_field(out, s, x, code, index)? {
+            break;
         }
-        print(b",");
-        index += 1;
+        write!(out, ",")?;
     }
+    Ok(())
 }
 
 // All fields up to a code.
-fn answer_fields(s: &[u8], x: Record, last: u8) {
-    let mut code = 0;
-    while code < last {
-        if code > 0 {
-            print(b",");
+fn answer_fields(out: &mut impl Write, s: &[u8], x: Record, last: u8) -> io::Result<()> {
+    for before in 0..last {
+        if before > 0 {
+            write!(out, ",")?;
         }
-        code += 1;
+        let code = before + 1;
         if is_indexed(code) {
-            answer_items(s, x, code);
+            answer_items(out, s, x, code)?;
         } else {
-            answer_field(s, x, code, 0);
+            answer_field(out, s, x, code, 0)?;
         }
     }
+    Ok(())
 }
 
 // A verdict.
-fn print_verdict(v: Verdict) {
+fn print_verdict(out: &mut impl Write, v: Verdict) -> io::Result<()> {
     match v {
-        Verdict::Judged(number, notice) => print_two(b"JUDGED", number as u64, notice as u64),
-        Verdict::Refused(number, place) => print_refused(number, place),
+        Verdict::Judged(number, notice) => {
+            let noted = u8::from(notice);
+            write!(out, "JUDGED {number} {noted}")
+        }
+        Verdict::Refused(number, place) => print_refused(out, number, place),
     }
 }
 
 // A verdict on a seal, by its findings, the two digests and the record.
-fn answer_seal_verdict(s: &[u8]) {
+fn seal_verdict(s: &[u8]) -> Verdict {
     let digests = after(s, 82);
     let rest = after_bytes(digests);
-    print_verdict(judges::seal(
+    judges::seal(
         bytes(after_bytes(rest)),
         findings(s),
         bytes(digests),
         bytes(rest),
-    ));
+    )
 }
 
 // A verdict on a signature record.
-fn answer_signature_verdict(s: &[u8]) {
+fn signature_verdict(s: &[u8]) -> Verdict {
     let digests = after(s, 82);
     let rest = after_bytes(digests);
-    print_verdict(judges::signature(
+    judges::signature(
         bytes(after_bytes(rest)),
         findings(s),
         bytes(digests),
         bytes(rest),
-    ));
+    )
 }
 
 // A question about a seal by an odd number, and about a signature record by an even one.
@@ -487,85 +451,81 @@ fn kind(operation: u8) -> Record {
 }
 
 // The answer to a case, by its operation.
-fn answer(case: &[u8]) {
+fn answer(out: &mut impl Write, case: &[u8]) -> io::Result<()> {
     let operation = byte(case);
     let s = after(case, 1);
     let x = kind(operation);
     match operation {
-        1 => answer_check(bytes(s), x),
-        2 => answer_check(bytes(s), x),
-        3 => answer_run(bytes(s)),
+        1 | 2 => answer_check(out, bytes(s), x)?,
+        3 => answer_run(out, bytes(s))?,
         4 => answer_step(
+            out,
             bytes(after(s, 16)),
             number(s, 8) as usize,
             number(after(s, 8), 8),
-        ),
-        5 => answer_fill(bytes(after(s, 4)), x, number(s, 4) as usize),
-        6 => answer_fill(bytes(after(s, 4)), x, number(s, 4) as usize),
-        7 => answer_write(bytes(after(s, 4)), x, number(s, 4) as usize),
-        8 => answer_write(bytes(after(s, 4)), x, number(s, 4) as usize),
-        9 => {
-            answer_field(
-                bytes(after(s, 9)),
-                x,
-                byte(s),
-                number(after(s, 1), 8) as usize,
-            );
+        )?,
+        5 | 6 => answer_fill(out, bytes(after(s, 4)), x, number(s, 4) as usize)?,
+        7 | 8 => answer_write(out, bytes(after(s, 4)), x, number(s, 4) as usize)?,
+        9 | 10 => {
+            let index = number(after(s, 1), 8) as usize;
+            answer_field(out, bytes(after(s, 9)), x, byte(s), index)?;
         }
-        10 => {
-            answer_field(
-                bytes(after(s, 9)),
-                x,
-                byte(s),
-                number(after(s, 1), 8) as usize,
-            );
+        11 => answer_fields(out, bytes(s), x, SEAL_CODES)?,
+        12 => answer_fields(out, bytes(s), x, SIGNATURE_CODES)?,
+        13 | 14 => {
+            print_part(out, matching::find(bytes(after_bytes(s)), x, bytes(s)))?;
         }
-        11 => answer_fields(bytes(s), x, SEAL_CODES),
-        12 => answer_fields(bytes(s), x, SIGNATURE_CODES),
-        13 => {
-            print_part(matching::find(bytes(after_bytes(s)), x, bytes(s)));
-        }
-        14 => {
-            print_part(matching::find(bytes(after_bytes(s)), x, bytes(s)));
-        }
-        15 => answer_seal_verdict(s),
-        16 => answer_signature_verdict(s),
-        _ => print(b"UNKNOWN"),
+        15 => print_verdict(out, seal_verdict(s))?,
+        16 => print_verdict(out, signature_verdict(s))?,
+        _ => write!(out, "UNKNOWN")?,
     }
-    print(b"\n");
+    writeln!(out)
+}
+
+// Reads until a buffer is full or the input ends; whether it is full.
+fn read_full(input: &mut impl Read, buf: &mut [u8]) -> io::Result<bool> {
+    let mut n = 0;
+    while n < buf.len() {
+        let k = input.read(&mut buf[n..])?;
+        if k == 0 {
+            return Ok(false);
+        }
+        n += k;
+    }
+    Ok(true)
 }
 
 // Reads a case of a size and answers it; whether all of it was there.
-fn read_case(case: &mut [u8]) -> bool {
-    if io::read_full(STDIN_FILENO, case) < case.len() {
-        return false;
+fn read_case(input: &mut impl Read, out: &mut impl Write, case: &mut [u8]) -> io::Result<bool> {
+    if !read_full(input, case)? {
+        return Ok(false);
     }
-    answer(case);
-    true
+    answer(out, case)?;
+    Ok(true)
 }
 
 // Reads the next case and answers it; whether there was one.
-fn next(space: &mut [u8]) -> bool {
+fn next(input: &mut impl Read, out: &mut impl Write, space: &mut [u8]) -> io::Result<bool> {
     let mut size = [0u8; 4];
-    if io::read_full(STDIN_FILENO, &mut size) < 4 {
-        return false;
+    if !read_full(input, &mut size)? {
+        return Ok(false);
     }
     let n = number(&size, 4) as usize;
     if n <= space.len() {
-        return read_case(&mut space[..n]);
+        return read_case(input, out, &mut space[..n]);
     }
-    false
+    Ok(false)
 }
 
-// Answers one case after another until the input ends.
-fn main() {
-    let mut space = [0u8; 70000];
-    let case: &mut [u8] = &mut space;
-    let mut left = MOST_CASES;
-    while left > 0 {
-        if !next(case) {
-            return;
+// Answers one case after another until the input ends. A read or a write that fails ends it with that error.
+fn main(rt: HostRuntime) -> io::Result<()> {
+    let mut space = [0u8; LARGEST];
+    let mut input = rt.stdin();
+    let mut out = BufWriter::new(rt.alloc(), io::writer(&rt))?;
+    for _ in 0..MOST_CASES {
+        if !next(&mut input, &mut out, &mut space)? {
+            break;
         }
-        left -= 1;
     }
+    out.flush()
 }

@@ -1,3 +1,2 @@
 // The promises stand in specs/: theorems over the definitions of the rules.
 #![tactic(auto)]
-

@@ -2,10 +2,9 @@
 use Rattle.std.specs.Prelude.{◌≡◌, ℕ, ◌+◌, ◌-◌, ◌^◌, ◌≤◌, ◌<◌, List, length, take}
 use Rattle.std.proofs.Common.{subst, sym, arith, length-take-le, Fits}
 use Rattle.std.specs.Int.{w64}
-use Rattle.streams.specs.Input.{Reads, Filled}
+use Rattle.streams.specs.Input.{IsPrefixLen, Reads, Filled}
 use Rattle.streams.specs.declared.Read.{Read}
 use Rattle.streams.specs.declared.Read.TheVariants.{More}
-use Rattle.io.specs.Counts.{IsPrefixLen}
 use Rattle.streams.specs.declared.Input.{Input}
 use Rattle.streams.specs.declared.Input.TheVariants.{Bytes}
 

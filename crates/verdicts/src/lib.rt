@@ -1,7 +1,6 @@
 // The findings, as plain data. A time in them is a whole number whose fourteen decimal digits are the date and time.
 #![tactic(auto)]
 
-
 // Never revoked, or revoked at a time.
 #[derive(Clone, Copy)]
 pub enum Revocation {

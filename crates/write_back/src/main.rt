@@ -3,38 +3,33 @@
 #![tactic(auto)]
 
 use layouts::Outcome;
-use libc::STDOUT_FILENO;
 use records::Record;
+use std::io;
+use std::io::Write;
+use std::process::ExitCode;
 use streams::Input;
 
-// The line of a refusal.
-fn print_refusal(number: u8, place: usize) {
-    io::write_all(STDOUT_FILENO, b"REFUSED ");
-    io::print_decimal(STDOUT_FILENO, number as u64);
-    io::write_all(STDOUT_FILENO, b" ");
-    io::print_decimal(STDOUT_FILENO, place as u64);
-    io::write_all(STDOUT_FILENO, b"\n");
-}
-
-// Reads the input into a buffer, goes there and back, and writes what came back.
-fn main() {
-    let mut input = [0u8; 65536];
+// Goes there and back, and writes what came back.
+fn print(rt: &impl Print, record: &[u8]) -> io::Result<()> {
     let mut sheet = [0u8; 65536];
     let mut back = [0u8; 65536];
-    let Input::Bytes(n) = streams::fill(&mut input) else {
-        os::fail(b"read");
-        return;
-    };
-    let outcome = round_trips::record_and_back(
-        &input[..n],
-        Record::Signature,
-        &mut sheet,
-        &mut back,
-    );
-    match outcome {
-        Outcome::Length(m) => {
-            io::write_all(STDOUT_FILENO, &back[..m]);
+    match round_trips::record_and_back(record, Record::Signature, &mut sheet, &mut back) {
+        Outcome::Length(m) => io::writer(rt).write_all(&back[..m]),
+        Outcome::Refused(number, place) => println!(rt; "REFUSED {number} {place}"),
+    }
+}
+
+// Reads the input into a buffer and prints what comes of it, or says on standard error why it cannot be read.
+fn main(rt: HostRuntime) -> io::Result<ExitCode> {
+    let mut input = [0u8; 65536];
+    match streams::fill(&mut rt.stdin(), &mut input) {
+        Input::Bytes(n) => {
+            print(&rt, &input[..n])?;
+            Ok(ExitCode::SUCCESS)
         }
-        Outcome::Refused(number, place) => print_refusal(number, place),
+        Input::Failed(e) => {
+            eprintln!(rt; "read: {e}")?;
+            Ok(ExitCode::FAILURE)
+        }
     }
 }

@@ -1,0 +1,9 @@
+-- `streams::read_into`: each read stays inside the buffer and leaves less of it.
+use Rattle.std.proofs.Common.{length, ◌-◌, ◌≤◌}
+use Rattle.streams.proofs.read_into.Given as goal
+
+abbrev pub invariant-loop-n : goal.invariant-loop-n
+invariant-loop-n g l = l.n ≤ length l.buf
+
+abbrev pub decreases-loop-n : goal.decreases-loop-n
+decreases-loop-n g l = length l.initial.buf - l.n
