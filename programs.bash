@@ -1,5 +1,5 @@
 # What check-record, sheet-record and show-record share: streams, options, the program, what is said. Each of them sources this, with its own name in
-# `command`, its `usage`, and in `duration` how long its program takes to prove and build from nothing; the files are left as arguments.
+# `command` and its `usage`; the files are left as arguments.
 # The program is proved and built first if it is missing or older than the crates.
 # shellcheck shell=bash disable=SC2154,SC2034 # what is set here and there
 
@@ -53,7 +53,7 @@ build() {
     began=$(date +%s.%N)
     { mkdir -p "$project/target" && : > "$log"; } 2> /dev/null ||
         fail "$project/target: cannot be written, and the program there is missing or older than the crates"
-    say "proving and building the program, once: $duration from nothing (log: $log)"
+    say "proving and building the program, once: many minutes from nothing (log: $log)"
     if ! (cd "$crate" && rt run -- "${run[@]:1}") > "$log" 2>&1 < /dev/null; then
         tail -n 20 "$log" >&2 || true
         fail "the program could not be built; $log has all that was said"
