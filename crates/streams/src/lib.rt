@@ -1,8 +1,8 @@
 // A program's input: a reader's bytes, into a buffer.
 #![tactic(auto)]
 
-ghost use Rattle.std.specs.Prelude.{◌≡◌, ◌≤◌, length};
-ghost use Rattle.streams.specs.Input.{Reads, Filled};
+ghost use Rattle.std.specs.Prelude.{◌≡◌, ◌≤◌, length, take};
+ghost use Rattle.streams.specs.Input.{Reads, Filled, Gives, Taken};
 
 use std::io;
 
@@ -25,6 +25,8 @@ pub enum Input {
 fn read_some<R: io::Read>(reader: &mut R, buf: &mut [u8], at: usize) -> Read
     requires { at ≤ length buf.old }
     ensures reads { Reads result at (length buf.old) }
+    ensures gives { Gives (R.remaining reader.old) (R.remaining reader.new) result at buf.new }
+    ensures before_unchanged { take at buf.new ≡ take at buf.old }
     ensures buf_len_unchanged { length buf.new ≡ length buf.old }
 {
     match reader.read(&mut buf[at..]) {
@@ -40,7 +42,8 @@ fn read_some<R: io::Read>(reader: &mut R, buf: &mut [u8], at: usize) -> Read
 
 // Reads into a buffer until it is full, the input ends or a read fails.
 fn read_into<R: io::Read>(reader: &mut R, buf: &mut [u8]) -> Input
-    ensures { Filled result buf.new }
+    ensures filled { Filled result buf.new }
+    ensures taken { Taken (R.remaining reader.old) (R.remaining reader.new) result buf.new }
 {
     let mut n = 0;
     while n < buf.len() {
@@ -55,7 +58,8 @@ fn read_into<R: io::Read>(reader: &mut R, buf: &mut [u8]) -> Input
 
 // Fills a buffer, which has room for the largest record and one byte more, until it is full, the input ends or a read fails.
 pub fn fill<R: io::Read>(reader: &mut R, buf: &mut [u8; 65536]) -> Input
-    ensures { Filled result buf.new }
+    ensures filled { Filled result buf.new }
+    ensures taken { Taken (R.remaining reader.old) (R.remaining reader.new) result buf.new }
 {
     read_into(reader, buf)
 }
