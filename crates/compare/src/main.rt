@@ -139,6 +139,16 @@ fn print_refused(out: &mut impl Write, number: u8, place: usize) -> io::Result<(
     write!(out, "REFUSED {number} {place}")
 }
 
+// A value.
+fn print_value(out: &mut impl Write, v: i64) -> io::Result<()> {
+    let n = number(&numerals::eight(v), 8);
+    if v < 0 {
+        let below = 0u64.wrapping_sub(n);
+        return write!(out, "VALUE -{below}");
+    }
+    write!(out, "VALUE {n}")
+}
+
 // Where a part lies; whether there is one.
 fn print_part(out: &mut impl Write, p: Part) -> io::Result<bool> {
     match p {
@@ -161,7 +171,7 @@ fn print_part(out: &mut impl Write, p: Part) -> io::Result<bool> {
 fn print_integer(out: &mut impl Write, x: Number) -> io::Result<bool> {
     match x {
         Number::Value(v) => {
-            write!(out, "VALUE {v}")?;
+            print_value(out, v)?;
             Ok(true)
         }
         Number::Absent => {
@@ -179,8 +189,7 @@ fn print_integer(out: &mut impl Write, x: Number) -> io::Result<bool> {
 fn print_critical(out: &mut impl Write, x: Critical) -> io::Result<bool> {
     match x {
         Critical::Is(is) => {
-            let v = u8::from(is);
-            write!(out, "VALUE {v}")?;
+            print_value(out, if is { 1 } else { 0 })?;
             Ok(true)
         }
         Critical::Absent => {
