@@ -504,12 +504,13 @@ fn read_full(input: &mut impl Read, buf: &mut [u8]) -> io::Result<bool> {
     Ok(true)
 }
 
-// Reads a case of a size and answers it; whether all of it was there.
+// Reads a case of a size and answers it, and has the answer out before the next is read; whether all of the case was there.
 fn read_case(input: &mut impl Read, out: &mut impl Write, case: &mut [u8]) -> io::Result<bool> {
     if !read_full(input, case)? {
         return Ok(false);
     }
     answer(out, case)?;
+    out.flush()?;
     Ok(true)
 }
 
@@ -536,5 +537,5 @@ fn main(rt: HostRuntime) -> io::Result<()> {
             break;
         }
     }
-    out.flush()
+    Ok(())
 }
