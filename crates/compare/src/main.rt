@@ -7,7 +7,7 @@ use layouts::Outcome;
 use records::{Critical, Items, Number, Part, Record};
 use runs::{Counted, Stepped};
 use std::io;
-use std::io::{BufWriter, Read, Write};
+use std::io::{Read, Write};
 use terms::Field;
 use verdicts::{
     CertificateFacts, Dates, Findings, Revocation, SealFacts, StampFacts, Stamping, Verdict,
@@ -504,13 +504,12 @@ fn read_full(input: &mut impl Read, buf: &mut [u8]) -> io::Result<bool> {
     Ok(true)
 }
 
-// Reads a case of a size and answers it, and has the answer out before the next is read; whether all of the case was there.
+// Reads a case of a size and answers it; whether all of it was there.
 fn read_case(input: &mut impl Read, out: &mut impl Write, case: &mut [u8]) -> io::Result<bool> {
     if !read_full(input, case)? {
         return Ok(false);
     }
     answer(out, case)?;
-    out.flush()?;
     Ok(true)
 }
 
@@ -531,7 +530,7 @@ fn next(input: &mut impl Read, out: &mut impl Write, space: &mut [u8]) -> io::Re
 fn main(rt: HostRuntime) -> io::Result<()> {
     let mut space = [0u8; LARGEST];
     let mut input = rt.stdin();
-    let mut out = BufWriter::new(rt.alloc(), io::writer(&rt))?;
+    let mut out = io::writer(&rt);
     for _ in 0..MOST_CASES {
         if !next(&mut input, &mut out, &mut space)? {
             break;
