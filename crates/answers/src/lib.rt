@@ -6,18 +6,16 @@ ghost use Rattle.std.proofs.Math.Seq.{slice};
 ghost use Rattle.layouts.specs.Scan.{judged_at};
 ghost use Rattle.primitives.specs.Primitive.{says};
 
-use contents::Checked;
-use heads::Seen;
+use heads::Span;
 use primitives::Content;
+use terms::Refusal;
 
 // What a content's rule answers, as the item or its refusal.
-pub fn judged(c: Checked, a: usize, z: usize) -> Seen
+pub fn judged(c: Result<(), Refusal>, a: usize, z: usize) -> Result<Span, Refusal>
     ensures { result ≡ judged_at c a z }
 {
-    match c {
-        Checked::Fine => Seen::Item { start: a, end: z },
-        Checked::Wrong(number, place) => Seen::Refused(number, place),
-    }
+    c?;
+    Ok(Span { start: a, end: z })
 }
 
 // Whether what stands from one position to another is the content that is named.

@@ -1,7 +1,7 @@
 -- What is asked with numbers, case by case. Assumes nothing.
 use Rattle.std.specs.Prelude.{◌≡◌, ℕ, ◌≤◌, ◌<◌, List}
-use Rattle.std.proofs.Common.{ap, ◌∙◌}
-use borrow.Author.Tests.{eq-eqb, ne_eqb, lt-ltb, le-ltb}
+use Rattle.std.proofs.Common.{refl, ◌∙◌}
+use borrow.Author.Tests.{ne_eqb, lt-ltb, le-ltb}
 use Rattle.terms.specs.declared.Field.{Field}
 use Rattle.terms.specs.declared.Field.TheVariants.{SealType, ListKind, Width, Height, CertificateList, SealCustomData, SealCustomCritical, SignedCustomData, SignedCustomCritical}
 use Rattle.terms.specs.Names.{name_of, names_count}
@@ -11,26 +11,8 @@ use Rattle.layouts.specs.Fields.{is_field}
 use Rattle.records.specs.Record.{signature}
 use Rattle.records.specs.declared.Record.{Record}
 use Rattle.records.specs.declared.Record.TheVariants.{Seal, Signature}
-use Rattle.records.specs.Handing.{layout_of, seek, tell, told_place, value_answer, critical_answer, count_answer, match_answer}
-use Rattle.asked.specs.Asked.{kind_of, is_among, only_if, asked_field, asked_match, asked_value, asked_critical, asked_count}
-
--- ---- the record by its kind
-
-module _ (n : ℕ) where
-  pub kind-seal : n ≡ 0 → Seal ≡ kind_of n
-  unfolding kind_of pick
-  kind-seal h = rw (eq-eqb n 0 h)
-
-  pub kind-signature : (n ≡ 0 → ⊥) → Signature ≡ kind_of n
-  unfolding kind_of pick
-  kind-signature h = rw (ne_eqb n 0 h)
-
-module _ (n : ℕ) (t : Told) (f : Record → Told) where
-  by_seal : n ≡ 0 → t ≡ f Seal → t ≡ f (kind_of n)
-  by_seal h e = e ∙ ap f (kind-seal n h)
-
-  by_signature : (n ≡ 0 → ⊥) → t ≡ f Signature → t ≡ f (kind_of n)
-  by_signature h e = e ∙ ap f (kind-signature n h)
+use Rattle.records.specs.Handing.{layout_of, seek, tell, told_place, value_answer, critical_answer, count_answer}
+use Rattle.asked.specs.Asked.{kind_of, is_among, only_if, asked_field, asked_value, asked_critical, asked_count}
 
 -- ---- a field by its number
 
@@ -42,10 +24,6 @@ module _ (kind n k : ℕ) (w : List ℕ) where
   pub field_by : (x : Record) (f : Field) (t : Told) → n < names_count → x ≡ kind_of kind → f ≡ name_of n → t ≡ tell told_place (seek (layout_of x) (is_field f k) w) → t ≡ asked_field kind n k w
   unfolding asked_field only_if pick
   field_by x f t h e g a = rw (lt-ltb n names_count h, ← e, ← g) a
-
-pub match_by : (kind : ℕ) (given w : List ℕ) (x : Record) (t : Told) → x ≡ kind_of kind → t ≡ match_answer (layout_of x) given w → t ≡ asked_match kind given w
-unfolding asked_match
-match_by kind given w x t e a = rw (← e) a
 
 -- ---- integers
 
@@ -72,70 +50,54 @@ value_none kind n w a b c d = rw (ne_eqb n 5 a, ne_eqb n 7 b, ne_eqb n 19 c, ne_
 
 -- ---- critical
 
-module _ (n k : ℕ) (w : List ℕ) (t : Told) where
-  pub critical-seal : n ≡ 24 → t ≡ critical_answer (layout_of Seal) SealCustomCritical k w → t ≡ asked_critical Seal n k w
+module _ (kind n k : ℕ) (w : List ℕ) (x : Record) (t : Told) (e : x ≡ kind_of kind) where
+  pub critical-seal : n ≡ 24 → t ≡ critical_answer (layout_of x) SealCustomCritical k w → t ≡ asked_critical (kind_of kind) n k w
   unfolding asked_critical only_if is_among pick
-  critical-seal h a = rw h a
+  critical-seal h a = rw (← e, h) (a ∙ go x)
+    where
+      go : (x : Record) → critical_answer (layout_of x) SealCustomCritical k w ≡ asked_critical x 24 k w
+      go Seal = refl
+      go Signature = refl
 
-  pub critical_in-seal : n ≡ 24 → t ≡ critical_answer (layout_of Signature) SealCustomCritical k w → t ≡ asked_critical Signature n k w
+  pub critical_signed : x ≡ Signature → n ≡ 37 → t ≡ critical_answer signature SignedCustomCritical k w → t ≡ asked_critical (kind_of kind) n k w
   unfolding asked_critical only_if is_among pick
-  critical_in-seal h a = rw h a
+  critical_signed i h a = rw (← e, i, h) a
 
-  pub critical_signed : n ≡ 37 → t ≡ critical_answer signature SignedCustomCritical k w → t ≡ asked_critical Signature n k w
+  pub critical_no_seal : x ≡ Seal → (n ≡ 24 → ⊥) → told_none absent ≡ asked_critical (kind_of kind) n k w
   unfolding asked_critical only_if is_among pick
-  critical_signed h a = rw h a
+  critical_no_seal i a = rw (← e, i, ne_eqb n 24 a)
 
-module _ (n k : ℕ) (w : List ℕ) (a : n ≡ 24 → ⊥) where
-  pub critical_no_seal : told_none absent ≡ asked_critical Seal n k w
+  pub critical_no_signature : x ≡ Signature → (n ≡ 24 → ⊥) → (n ≡ 37 → ⊥) → told_none absent ≡ asked_critical (kind_of kind) n k w
   unfolding asked_critical only_if is_among pick
-  critical_no_seal = rw (ne_eqb n 24 a)
-
-  pub critical_no_signature : (n ≡ 37 → ⊥) → told_none absent ≡ asked_critical Signature n k w
-  unfolding asked_critical only_if is_among pick
-  critical_no_signature b = rw (ne_eqb n 24 a, ne_eqb n 37 b)
-
-module _ (kind n k : ℕ) (w : List ℕ) (t : Told) where
-  pub critical-kind-seal : kind ≡ 0 → t ≡ asked_critical Seal n k w → t ≡ asked_critical (kind_of kind) n k w
-  critical-kind-seal h e = by_seal kind t (λ x. asked_critical x n k w) h e
-
-  pub critical-kind-signature : (kind ≡ 0 → ⊥) → t ≡ asked_critical Signature n k w → t ≡ asked_critical (kind_of kind) n k w
-  critical-kind-signature h e = by_signature kind t (λ x. asked_critical x n k w) h e
+  critical_no_signature i a b = rw (← e, i, ne_eqb n 24 a, ne_eqb n 37 b)
 
 -- ---- counts
 
-module _ (n : ℕ) (w : List ℕ) (t : Told) where
-  pub count_seal_list : n ≡ 8 → t ≡ count_answer (layout_of Seal) CertificateList w → t ≡ asked_count Seal n w
+module _ (kind n : ℕ) (w : List ℕ) (x : Record) (t : Told) (e : x ≡ kind_of kind) where
+  pub count_list : n ≡ 8 → t ≡ count_answer (layout_of x) CertificateList w → t ≡ asked_count (kind_of kind) n w
   unfolding asked_count only_if is_among pick
-  count_seal_list h a = rw h a
+  count_list h a = rw (← e, h) (a ∙ go x)
+    where
+      go : (x : Record) → count_answer (layout_of x) CertificateList w ≡ asked_count x 8 w
+      go Seal = refl
+      go Signature = refl
 
-  pub count-seal-items : n ≡ 21 → t ≡ count_answer (layout_of Seal) SealCustomData w → t ≡ asked_count Seal n w
+  pub count-items : n ≡ 21 → t ≡ count_answer (layout_of x) SealCustomData w → t ≡ asked_count (kind_of kind) n w
   unfolding asked_count only_if is_among pick
-  count-seal-items h a = rw h a
+  count-items h a = rw (← e, h) (a ∙ go x)
+    where
+      go : (x : Record) → count_answer (layout_of x) SealCustomData w ≡ asked_count x 21 w
+      go Seal = refl
+      go Signature = refl
 
-  pub count_list : n ≡ 8 → t ≡ count_answer (layout_of Signature) CertificateList w → t ≡ asked_count Signature n w
+  pub count_signed : x ≡ Signature → n ≡ 34 → t ≡ count_answer signature SignedCustomData w → t ≡ asked_count (kind_of kind) n w
   unfolding asked_count only_if is_among pick
-  count_list h a = rw h a
+  count_signed i h a = rw (← e, i, h) a
 
-  pub count-items : n ≡ 21 → t ≡ count_answer (layout_of Signature) SealCustomData w → t ≡ asked_count Signature n w
+  pub count_no_seal : x ≡ Seal → (n ≡ 8 → ⊥) → (n ≡ 21 → ⊥) → told_none absent ≡ asked_count (kind_of kind) n w
   unfolding asked_count only_if is_among pick
-  count-items h a = rw h a
+  count_no_seal i a b = rw (← e, i, ne_eqb n 8 a, ne_eqb n 21 b)
 
-  pub count_signed : n ≡ 34 → t ≡ count_answer signature SignedCustomData w → t ≡ asked_count Signature n w
+  pub count_no_signature : x ≡ Signature → (n ≡ 8 → ⊥) → (n ≡ 21 → ⊥) → (n ≡ 34 → ⊥) → told_none absent ≡ asked_count (kind_of kind) n w
   unfolding asked_count only_if is_among pick
-  count_signed h a = rw h a
-
-module _ (n : ℕ) (w : List ℕ) (a : n ≡ 8 → ⊥) (b : n ≡ 21 → ⊥) where
-  pub count_no_seal : told_none absent ≡ asked_count Seal n w
-  unfolding asked_count only_if is_among pick
-  count_no_seal = rw (ne_eqb n 8 a, ne_eqb n 21 b)
-
-  pub count_no_signature : (n ≡ 34 → ⊥) → told_none absent ≡ asked_count Signature n w
-  unfolding asked_count only_if is_among pick
-  count_no_signature c = rw (ne_eqb n 8 a, ne_eqb n 21 b, ne_eqb n 34 c)
-
-module _ (kind n : ℕ) (w : List ℕ) (t : Told) where
-  pub count-kind-seal : kind ≡ 0 → t ≡ asked_count Seal n w → t ≡ asked_count (kind_of kind) n w
-  count-kind-seal h e = by_seal kind t (λ x. asked_count x n w) h e
-
-  pub count-kind-signature : (kind ≡ 0 → ⊥) → t ≡ asked_count Signature n w → t ≡ asked_count (kind_of kind) n w
-  count-kind-signature h e = by_signature kind t (λ x. asked_count x n w) h e
+  count_no_signature i a b c = rw (← e, i, ne_eqb n 8 a, ne_eqb n 21 b, ne_eqb n 34 c)

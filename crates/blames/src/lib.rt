@@ -2,10 +2,10 @@
 #![tactic(auto)]
 
 ghost use Rattle.std.specs.Prelude.{◌≡◌};
-ghost use Rattle.layouts.specs.Marks.{blamed};
+ghost use Rattle.layouts.specs.Marks.{blamed, blaming};
 
 use places::TABLE_SIZE;
-use terms::Field;
+use terms::{Field, Refusal};
 
 // Notes the name of a field that is refused, once, where the table has a number more than it needs.
 pub fn blame(places: &mut [usize], f: Field)
@@ -18,4 +18,15 @@ pub fn blame(places: &mut [usize], f: Field)
         return;
     }
     places[TABLE_SIZE] = slots::number_of(f) + 1;
+}
+
+// What is answered of a field, and its name noted where that is a refusal.
+pub fn blaming<T>(answer: Result<T, Refusal>, f: Field, places: &mut [usize]) -> Result<T, Refusal>
+    ensures same { result ≡ answer }
+    ensures places_after { places.new ≡ blaming answer f places.old }
+{
+    if answer.is_err() {
+        blame(places, f);
+    }
+    answer
 }

@@ -1,12 +1,12 @@
 -- Which bytes begin a character of an alphabet, and a text byte by byte. Assumes nothing.
-use Rattle.std.specs.Prelude.{◌≡◌, refl, ℕ, suc, zero, ◌+◌, ◌≤◌, ◌<◌, max, Bool, true, false, ◌&&◌, List, [], ◌∷◌, length, get_or, take, drop, T, leb, ltb}
+use Rattle.std.specs.Prelude.{◌≡◌, refl, ℕ, suc, zero, ◌≤◌, ◌<◌, max, true, false, ◌&&◌, List, [], ◌∷◌, length, get_or, take, drop, T, leb, ltb}
 use Rattle.std.proofs.Math.Path.{sym}
-use Rattle.std.proofs.Common.{◌∙◌, arith, add-one, drop_of_length-le, leb→le, ltb→lt, nltb→le, le-leb, lt-ltb, le-ltb}
-use Rattle.std.proofs.Math.Seq.{drop-cons}
+use Rattle.std.proofs.Common.{ap, ◌∙◌, arith, drop_of_length-le, leb→le, ltb→lt, nltb→le, lt-ltb, le-ltb, le-leb}
+use Rattle.std.proofs.Math.Bool.{and-true, and-false}
+use Rattle.std.specs.List.{list_all, fold}
 use Rattle.terms.specs.Answer.{pick, every}
 use Rattle.terms.specs.Laws.Answer.{test, and_l, and_r, is_true, is_false}
 use Rattle.contents.specs.Text.{Range, within, Character, character, starts, follows, text_from, is_text, ia5, printable}
-use Rattle.characters.specs.Text.{largest_of}
 
 -- ---- a byte of a range, and one of none
 
@@ -50,16 +50,7 @@ unfolding starts
 starts_none [] b h = refl
 starts_none (x ∷ xs) b (h, k) = rw (within_no b x.first h) (starts_none xs b k)
 
--- ---- the largest byte
-
--- what was passed and what is left, together
-pub largest_on : (w : List ℕ) (i m n : ℕ) → i < length w → largest_of w ≡ max m (largest_of (drop i w)) → n ≡ max m (get_or w i 0) → largest_of w ≡ max n (largest_of (drop (i + 1) w))
-unfolding largest_of
-largest_on w i m n h e f = e ∙ rw (add-one, drop-cons w i 0, f) (omega arith)
-
-pub largest_end : (w : List ℕ) (i m : ℕ) → length w ≤ i → largest_of w ≡ max m (largest_of (drop i w)) → m ≡ largest_of w
-unfolding largest_of
-largest_end w i m h e = sym (e ∙ rw (drop_of_length-le w h) (omega arith))
+-- ---- an alphabet byte by byte
 
 -- a byte below 80 is a character of its own, in both alphabets
 pub low_byte : (xs : List Character) → row xs 0 ≡ character 0x00 0x7F [] → (b : ℕ) (c : List ℕ) → b < 0x80 → is_text xs (b ∷ c) ≡ is_text xs c
@@ -69,23 +60,26 @@ low_byte xs e b c h =
     let m : b ≤ (row xs 0).first.1 = rw e (omega arith) in
     rw (← starts-row xs 0 b z m, follows-row xs 0 b tt z m, e)
 
-pub below_80 : (c : List ℕ) → ltb (largest_of c) 0x80 ≡ is_text ia5 c
-unfolding largest_of text_from
-below_80 [] = refl
-below_80 (b ∷ c) =
+-- the bytes after some of which the largest is `m`
+below : (m : ℕ) (c : List ℕ) → ltb (fold max m c) 0x80 ≡ ltb m 0x80 && is_text ia5 c
+unfolding text_from
+below m [] = sym (and-true (ltb m 0x80))
+below m (b ∷ c) =
     test (ltb b 0x80)
-    (λ t.
-    let h : b < 0x80 = ltb→lt b 0x80 t in
-    rw (low_byte ia5 refl b c h, ← below_80 c) (small b (largest_of c) h))
-    (λ t.
-    let h : 0x80 ≤ b = nltb→le b 0x80 t in
-    rw (← starts_none ia5 b ((λ l k. omega arith), tt)) (le-ltb (max b (largest_of c)) 0x80 (omega arith)))
+    (λ t. let h : b < 0x80 = ltb→lt b 0x80 t in rw (low_byte ia5 refl b c h, ← below_max h) (below (max m b) c))
+    (λ t. let h : 0x80 ≤ b = nltb→le b 0x80 t in rw (← starts_none ia5 b ((λ l k. omega arith), tt), and-false (ltb m 0x80), ← above_max h) (below (max m b) c))
   where
-    small : (x m : ℕ) → x < 0x80 → ltb (max x m) 0x80 ≡ ltb m 0x80
-    small x m h =
+    below_max : b < 0x80 → ltb (max m b) 0x80 ≡ ltb m 0x80
+    below_max h =
         test (ltb m 0x80)
-        (λ t. let k : m < 0x80 = ltb→lt m 0x80 t in rw (lt-ltb m 0x80 k) (lt-ltb (max x m) 0x80 (omega arith)))
-        (λ t. let k : 0x80 ≤ m = nltb→le m 0x80 t in rw (le-ltb m 0x80 k) (le-ltb (max x m) 0x80 (omega arith)))
+        (λ t. let k : m < 0x80 = ltb→lt m 0x80 t in rw (lt-ltb m 0x80 k) (lt-ltb (max m b) 0x80 (omega arith)))
+        (λ t. let k : 0x80 ≤ m = nltb→le m 0x80 t in rw (le-ltb m 0x80 k) (le-ltb (max m b) 0x80 (omega arith)))
+
+    above_max : 0x80 ≤ b → ltb (max m b) 0x80 && is_text ia5 c ≡ false
+    above_max h = rw (le-ltb (max m b) 0x80 (omega arith))
+
+pub below_80 : (c : List ℕ) → ltb (fold max 0 c) 0x80 ≡ is_text ia5 c
+below_80 c = below 0 c
 
 -- ---- an alphabet whose characters have one byte each
 
@@ -101,14 +95,11 @@ follows_nothing (x ∷ xs) b t =
     empty [] l = refl
     empty (r ∷ rs) l = let k : length (r ∷ rs) < 1 = ltb→lt _ 1 l in absurd (omega arith)
 
-module _ (w : List ℕ) (i : ℕ) (t : Bool) (e : is_text printable w ≡ is_text printable (drop i w)) (h : i < length w) (g : t ≡ starts printable (get_or w i 0)) where
-  pub printable_on : t ≡ true → is_text printable w ≡ is_text printable (drop (i + 1) w)
-  unfolding text_from every
-  printable_on f = e ∙ rw (add-one, drop-cons w i 0, ← g, f, follows_nothing printable (get_or w i 0) tt)
-
-  pub printable-bad : t ≡ false → false ≡ is_text printable w
-  unfolding text_from
-  printable-bad f = sym (e ∙ rw (drop-cons w i 0, ← g, f))
+-- whether each byte begins a character
+pub printable_each : (c : List ℕ) → list_all (starts printable) c ≡ is_text printable c
+unfolding text_from every
+printable_each [] = refl
+printable_each (b ∷ c) = rw (follows_nothing printable b tt) (ap (λ r. starts printable b && r) (printable_each c))
 
 -- at the end of a text nothing is left to look at
 pub text_end : (xs : List Character) (w : List ℕ) (i : ℕ) → length w ≤ i → is_text xs w ≡ is_text xs (drop i w) → true ≡ is_text xs w

@@ -2,30 +2,19 @@
 #![tactic(auto)]
 
 ghost use Rattle.std.specs.Prelude.{◌≡◌, max};
+ghost use Rattle.std.specs.List.{fold};
 ghost use Rattle.contents.specs.Text.{starts, is_text, ia5 as ia5Characters, printable as printableCharacters};
-ghost use Rattle.characters.specs.Text.{largest_of};
-
-// The larger of two bytes.
-fn larger(a: u8, b: u8) -> u8
-    ensures { result ≡ max a b }
-{
-    if a < b { b } else { a }
-}
 
 // The largest byte of a content, 0 where it has none. Every byte is looked at, with no way out, so that many are compared at once.
 fn largest(w: &[u8]) -> u8
-    ensures { result ≡ largest_of w.now }
+    ensures { result ≡ fold max 0 w.now }
 {
-    let mut most = 0;
-    let mut i = 0;
-    while i < w.len() {
-        most = larger(most, w[i]);
-        i += 1;
-    }
-    most
+    w.iter().fold(0, |most: u8, b| most.max(*b))
 }
 
 // Whether a content is text of an IA5String: its bytes are below 80.
+// Kept: `w.is_ascii()` takes some twenty instructions more where a text is short, as texts of records are.
+#[tactic(auto, using(crate::specs::Laws::below_80))]
 pub fn is_ia5(w: &[u8]) -> bool
     ensures { result ≡ is_text ia5Characters w.now }
 {
@@ -33,19 +22,13 @@ pub fn is_ia5(w: &[u8]) -> bool
 }
 
 // Whether a byte is a character of a PrintableString: a letter, a digit, a space, or one of ' ( ) + , - . / : = ?
+#[tactic(auto, unfolding(contents::specs::Text::starts, contents::specs::Text::within))]
 fn is_printable_byte(b: u8) -> bool
     ensures { result ≡ starts printableCharacters b }
 {
     match b {
-        b'A'..=b'Z' => true,
-        b'a'..=b'z' => true,
-        b'0'..=b'9' => true,
-        b' ' => true,
-        b'\''..=b')' => true,
-        b'+'..=b'/' => true,
-        b':' => true,
-        b'=' => true,
-        b'?' => true,
+        b'A'..=b'Z' | b'a'..=b'z' | b'0'..=b'9' => true,
+        b' ' | b'\''..=b')' | b'+'..=b'/' | b':' | b'=' | b'?' => true,
         _ => false,
     }
 }
@@ -54,12 +37,5 @@ fn is_printable_byte(b: u8) -> bool
 pub fn is_printable(w: &[u8]) -> bool
     ensures { result ≡ is_text printableCharacters w.now }
 {
-    let mut i = 0;
-    while i < w.len() {
-        if !is_printable_byte(w[i]) {
-            return false;
-        }
-        i += 1;
-    }
-    true
+    w.iter().all(|b| is_printable_byte(*b))
 }

@@ -1,31 +1,18 @@
 // Reads one signature record from standard input and prints one line: ACCEPTED and its length, or REFUSED, number, place.
 #![tactic(auto)]
 
-use layouts::Outcome;
 use std::io;
 use std::process::ExitCode;
-use streams::Input;
 
-// Prints the line of an outcome.
-fn print(rt: &impl Print, outcome: Outcome) -> io::Result<()> {
-    match outcome {
-        Outcome::Length(n) => println!(rt; "ACCEPTED {n}"),
-        Outcome::Refused(number, place) => println!(rt; "REFUSED {number} {place}"),
+// Prints the line of a record.
+fn print(rt: &impl Print, record: &[u8]) -> io::Result<()> {
+    match readers::check_signature(record) {
+        Ok(n) => println!(rt; "ACCEPTED {n}"),
+        Err(refusal) => println!(rt; "REFUSED {refusal}"),
     }
 }
 
-// Reads the input into a buffer and prints its line, or says on standard error why it cannot be read. The buffer has room for the largest
-// record and one byte more; what follows that changes no answer.
+// Reads the input and prints its line.
 fn main(rt: HostRuntime) -> io::Result<ExitCode> {
-    let mut input = [0u8; 65536];
-    match streams::fill(&mut rt.stdin(), &mut input) {
-        Input::Bytes(n) => {
-            print(&rt, readers::check_signature(&input[..n]))?;
-            Ok(ExitCode::SUCCESS)
-        }
-        Input::Failed(e) => {
-            eprintln!(rt; "read: {e}")?;
-            Ok(ExitCode::FAILURE)
-        }
-    }
+    streams::run(&rt, &mut rt.stdin(), |record| print(&rt, record))
 }

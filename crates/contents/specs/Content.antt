@@ -1,6 +1,7 @@
 -- What a rule says of a value, and where it points. Assumes nothing.
 use Rattle.std.specs.Prelude.{ℕ, ◌+◌, Bool, true, false, []}
-use Rattle.terms.specs.Numbers.{done}
+use Rattle.terms.specs.declared.Reason.{Reason}
+use Rattle.terms.specs.Numbers.{reason_number, done}
 use Rattle.terms.specs.Answer.{Res, fault, Told, refuses, told_none}
 
 -- where a rule points: the item's tag, or a byte of its value, its end allowed
@@ -8,20 +9,20 @@ pub data Spot : Type 0 where
   tag : Spot
   inside : ℕ → Spot
 
--- what a rule says of a value: it is fine, or the refusal's number and spot
+-- what a rule says of a value: it is fine, or why not and at which spot
 pub data Check : Type 0 where
   fine : Check
-  wrong : ℕ → Spot → Check
+  wrong : Reason → Spot → Check
 
 -- go on if the test holds, else refuse at the tag
-unfoldable pub ask : Bool → ℕ → Check → Check
+unfoldable pub ask : Bool → Reason → Check → Check
 ask true n k = k
 ask false n k = wrong n tag
 
 -- a rule's answer in the paper's terms; its place is the reader's to say
 abbrev pub told_check : Check → Told
 told_check fine = told_none done
-told_check (wrong n x) = refuses n []
+told_check (wrong n x) = refuses (reason_number n) []
 
 unfoldable pub passes : Check → Bool
 passes fine = true

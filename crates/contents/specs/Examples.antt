@@ -1,6 +1,8 @@
 -- Every class of damage to a content is refused with its number, and the edges beside it are taken. Assumes nothing.
 use Rattle.std.specs.Prelude.{◌≡◌, refl, ℕ, suc, zero, ◌+◌, ◌-◌, ◌^◌, Bool, true, false, List, [], ◌∷◌, ◌++◌, replicate, ℤ, pos, negsuc}
-use Rattle.terms.specs.Numbers.{done, bad_integer, not_allowed, not_es, bad_character, bad_time, bad_identifier, bad_boolean, no_bytes}
+use Rattle.terms.specs.Numbers.{reason_number, done}
+use Rattle.terms.specs.declared.Reason.{Reason}
+use Rattle.terms.specs.declared.Reason.TheVariants.{BadInteger, NotAllowed, NotEs, BadCharacter, BadTime, BadIdentifier, BadBoolean, NoBytes}
 use Rattle.terms.specs.Answer.{pick, bind, need, every, enough, same, Told, refuses, told_none, may_be_empty, never_empty}
 use Rattle.terms.specs.Digits.{digits, number_from}
 use Rattle.terms.specs.Laws.Table.{Row, asks, answers, same_number, same_numbers, same_told, agree, agreed}
@@ -16,8 +18,8 @@ unfolding pick bind need every enough same same_number same_numbers same_told ag
 evaluate = tt
 
 -- a rule that refuses with a number
-abbrev gets : ℕ → Told
-gets n = refuses n []
+abbrev gets : Reason → Told
+gets n = refuses (reason_number n) []
 
 -- 6: empty, over 8 bytes, not shortest; edges of 1 to 8 bytes are taken
 abbrev integers : List Row
@@ -29,12 +31,12 @@ integers =
     ∷ (told_check (integer_rule any (0xFF ∷ 0x7F ∷ [])), told_none done)
     ∷ (told_check (integer_rule any (0x80 ∷ 0x00 ∷ 0x00 ∷ 0x00 ∷ 0x00 ∷ 0x00 ∷ 0x00 ∷ 0x00 ∷ [])), told_none done)
     ∷ (told_check (integer_rule any (0x7F ∷ 0xFF ∷ 0xFF ∷ 0xFF ∷ 0xFF ∷ 0xFF ∷ 0xFF ∷ 0xFF ∷ [])), told_none done)
-    ∷ (told_check (integer_rule any ([])), gets bad_integer)
-    ∷ (told_check (integer_rule any (0x00 ∷ 0x80 ∷ 0x00 ∷ 0x00 ∷ 0x00 ∷ 0x00 ∷ 0x00 ∷ 0x00 ∷ 0x00 ∷ [])), gets bad_integer)
-    ∷ (told_check (integer_rule any (0x00 ∷ 0x7F ∷ [])), gets bad_integer)
-    ∷ (told_check (integer_rule any (0xFF ∷ 0x80 ∷ [])), gets bad_integer)
-    ∷ (told_check (integer_rule any (0x00 ∷ 0x00 ∷ [])), gets bad_integer)
-    ∷ (told_check (integer_rule any (0xFF ∷ 0xFF ∷ [])), gets bad_integer)
+    ∷ (told_check (integer_rule any ([])), gets BadInteger)
+    ∷ (told_check (integer_rule any (0x00 ∷ 0x80 ∷ 0x00 ∷ 0x00 ∷ 0x00 ∷ 0x00 ∷ 0x00 ∷ 0x00 ∷ 0x00 ∷ [])), gets BadInteger)
+    ∷ (told_check (integer_rule any (0x00 ∷ 0x7F ∷ [])), gets BadInteger)
+    ∷ (told_check (integer_rule any (0xFF ∷ 0x80 ∷ [])), gets BadInteger)
+    ∷ (told_check (integer_rule any (0x00 ∷ 0x00 ∷ [])), gets BadInteger)
+    ∷ (told_check (integer_rule any (0xFF ∷ 0xFF ∷ [])), gets BadInteger)
     ∷ []
 
 -- 7 by the list kind, after 6
@@ -42,11 +44,11 @@ abbrev kinds : List Row
 kinds =
     (told_check (integer_rule is_kind (0x01 ∷ [])), told_none done)
     ∷ (told_check (integer_rule is_kind (0x02 ∷ [])), told_none done)
-    ∷ (told_check (integer_rule is_kind (0x00 ∷ [])), gets not_allowed)
-    ∷ (told_check (integer_rule is_kind (0x03 ∷ [])), gets not_allowed)
-    ∷ (told_check (integer_rule is_kind (0xFF ∷ [])), gets not_allowed)
-    ∷ (told_check (integer_rule is_kind (0x00 ∷ 0x01 ∷ [])), gets bad_integer)
-    ∷ (told_check (integer_rule is_kind (0x00 ∷ 0x05 ∷ [])), gets bad_integer)
+    ∷ (told_check (integer_rule is_kind (0x00 ∷ [])), gets NotAllowed)
+    ∷ (told_check (integer_rule is_kind (0x03 ∷ [])), gets NotAllowed)
+    ∷ (told_check (integer_rule is_kind (0xFF ∷ [])), gets NotAllowed)
+    ∷ (told_check (integer_rule is_kind (0x00 ∷ 0x01 ∷ [])), gets BadInteger)
+    ∷ (told_check (integer_rule is_kind (0x00 ∷ 0x05 ∷ [])), gets BadInteger)
     ∷ []
 
 -- 7 by the millimetres
@@ -54,10 +56,10 @@ abbrev sizes : List Row
 sizes =
     (told_check (integer_rule is_millimetres (0x01 ∷ [])), told_none done)
     ∷ (told_check (integer_rule is_millimetres (0x00 ∷ 0xFF ∷ 0xFF ∷ [])), told_none done)
-    ∷ (told_check (integer_rule is_millimetres (0x00 ∷ [])), gets not_allowed)
-    ∷ (told_check (integer_rule is_millimetres (0x01 ∷ 0x00 ∷ 0x00 ∷ [])), gets not_allowed)
-    ∷ (told_check (integer_rule is_millimetres (0xFF ∷ [])), gets not_allowed)
-    ∷ (told_check (integer_rule is_millimetres (0x80 ∷ 0x00 ∷ 0x00 ∷ 0x00 ∷ 0x00 ∷ 0x00 ∷ 0x00 ∷ 0x00 ∷ [])), gets not_allowed)
+    ∷ (told_check (integer_rule is_millimetres (0x00 ∷ [])), gets NotAllowed)
+    ∷ (told_check (integer_rule is_millimetres (0x01 ∷ 0x00 ∷ 0x00 ∷ [])), gets NotAllowed)
+    ∷ (told_check (integer_rule is_millimetres (0xFF ∷ [])), gets NotAllowed)
+    ∷ (told_check (integer_rule is_millimetres (0x80 ∷ 0x00 ∷ 0x00 ∷ 0x00 ∷ 0x00 ∷ 0x00 ∷ 0x00 ∷ 0x00 ∷ [])), gets NotAllowed)
     ∷ []
 
 -- 9 by RFC 3629, section 4: overlong, surrogates, above 10FFFF, cut, a stray tail; both edges of each of its rows are taken
@@ -75,53 +77,53 @@ names =
     ∷ (told_check (string_rule utf8 may_be_empty (0xF1 ∷ 0x80 ∷ 0x80 ∷ 0x80 ∷ 0xF2 ∷ 0x80 ∷ 0xBF ∷ 0x80 ∷ 0xF3 ∷ 0xBF ∷ 0xBF ∷ 0xBF ∷ [])), told_none done)
     ∷ (told_check (string_rule utf8 may_be_empty (0xF4 ∷ 0x80 ∷ 0x80 ∷ 0x80 ∷ 0xF4 ∷ 0x8F ∷ 0xBF ∷ 0xBF ∷ [])), told_none done)
     ∷ (told_check (string_rule utf8 may_be_empty (0xEF ∷ 0xBB ∷ 0xBF ∷ [])), told_none done)
-    ∷ (told_check (string_rule utf8 may_be_empty (0xC0 ∷ 0x80 ∷ [])), gets bad_character)
-    ∷ (told_check (string_rule utf8 may_be_empty (0xC1 ∷ 0xBF ∷ [])), gets bad_character)
-    ∷ (told_check (string_rule utf8 may_be_empty (0xE0 ∷ 0x80 ∷ 0x80 ∷ [])), gets bad_character)
-    ∷ (told_check (string_rule utf8 may_be_empty (0xE0 ∷ 0x9F ∷ 0xBF ∷ [])), gets bad_character)
-    ∷ (told_check (string_rule utf8 may_be_empty (0xED ∷ 0xA0 ∷ 0x80 ∷ [])), gets bad_character)
-    ∷ (told_check (string_rule utf8 may_be_empty (0xED ∷ 0xBF ∷ 0xBF ∷ [])), gets bad_character)
-    ∷ (told_check (string_rule utf8 may_be_empty (0xF0 ∷ 0x8F ∷ 0xBF ∷ 0xBF ∷ [])), gets bad_character)
-    ∷ (told_check (string_rule utf8 may_be_empty (0xF4 ∷ 0x90 ∷ 0x80 ∷ 0x80 ∷ [])), gets bad_character)
-    ∷ (told_check (string_rule utf8 may_be_empty (0xF5 ∷ 0x80 ∷ 0x80 ∷ 0x80 ∷ [])), gets bad_character)
-    ∷ (told_check (string_rule utf8 may_be_empty (0x80 ∷ [])), gets bad_character)
-    ∷ (told_check (string_rule utf8 may_be_empty (0xFF ∷ [])), gets bad_character)
-    ∷ (told_check (string_rule utf8 may_be_empty (0xE5 ∷ 0x8D ∷ [])), gets bad_character)
-    ∷ (told_check (string_rule utf8 may_be_empty (0x41 ∷ 0xC2 ∷ [])), gets bad_character)
-    ∷ (told_check (string_rule utf8 may_be_empty (0xE5 ∷ 0x8D ∷ 0x41 ∷ [])), gets bad_character)
+    ∷ (told_check (string_rule utf8 may_be_empty (0xC0 ∷ 0x80 ∷ [])), gets BadCharacter)
+    ∷ (told_check (string_rule utf8 may_be_empty (0xC1 ∷ 0xBF ∷ [])), gets BadCharacter)
+    ∷ (told_check (string_rule utf8 may_be_empty (0xE0 ∷ 0x80 ∷ 0x80 ∷ [])), gets BadCharacter)
+    ∷ (told_check (string_rule utf8 may_be_empty (0xE0 ∷ 0x9F ∷ 0xBF ∷ [])), gets BadCharacter)
+    ∷ (told_check (string_rule utf8 may_be_empty (0xED ∷ 0xA0 ∷ 0x80 ∷ [])), gets BadCharacter)
+    ∷ (told_check (string_rule utf8 may_be_empty (0xED ∷ 0xBF ∷ 0xBF ∷ [])), gets BadCharacter)
+    ∷ (told_check (string_rule utf8 may_be_empty (0xF0 ∷ 0x8F ∷ 0xBF ∷ 0xBF ∷ [])), gets BadCharacter)
+    ∷ (told_check (string_rule utf8 may_be_empty (0xF4 ∷ 0x90 ∷ 0x80 ∷ 0x80 ∷ [])), gets BadCharacter)
+    ∷ (told_check (string_rule utf8 may_be_empty (0xF5 ∷ 0x80 ∷ 0x80 ∷ 0x80 ∷ [])), gets BadCharacter)
+    ∷ (told_check (string_rule utf8 may_be_empty (0x80 ∷ [])), gets BadCharacter)
+    ∷ (told_check (string_rule utf8 may_be_empty (0xFF ∷ [])), gets BadCharacter)
+    ∷ (told_check (string_rule utf8 may_be_empty (0xE5 ∷ 0x8D ∷ [])), gets BadCharacter)
+    ∷ (told_check (string_rule utf8 may_be_empty (0x41 ∷ 0xC2 ∷ [])), gets BadCharacter)
+    ∷ (told_check (string_rule utf8 may_be_empty (0xE5 ∷ 0x8D ∷ 0x41 ∷ [])), gets BadCharacter)
     -- a byte below 80 or above BF where a character goes on, in each row
-    ∷ (told_check (string_rule utf8 may_be_empty (0xC2 ∷ 0x7F ∷ [])), gets bad_character)
-    ∷ (told_check (string_rule utf8 may_be_empty (0xDF ∷ 0xC0 ∷ [])), gets bad_character)
-    ∷ (told_check (string_rule utf8 may_be_empty (0xE0 ∷ 0xA0 ∷ 0x7F ∷ [])), gets bad_character)
-    ∷ (told_check (string_rule utf8 may_be_empty (0xE0 ∷ 0xBF ∷ 0xC0 ∷ [])), gets bad_character)
-    ∷ (told_check (string_rule utf8 may_be_empty (0xE0 ∷ 0xC0 ∷ 0x80 ∷ [])), gets bad_character)
-    ∷ (told_check (string_rule utf8 may_be_empty (0xE1 ∷ 0x7F ∷ 0x80 ∷ [])), gets bad_character)
-    ∷ (told_check (string_rule utf8 may_be_empty (0xEC ∷ 0xC0 ∷ 0x80 ∷ [])), gets bad_character)
-    ∷ (told_check (string_rule utf8 may_be_empty (0xE1 ∷ 0x80 ∷ 0x7F ∷ [])), gets bad_character)
-    ∷ (told_check (string_rule utf8 may_be_empty (0xEC ∷ 0xBF ∷ 0xC0 ∷ [])), gets bad_character)
-    ∷ (told_check (string_rule utf8 may_be_empty (0xED ∷ 0x7F ∷ 0x80 ∷ [])), gets bad_character)
-    ∷ (told_check (string_rule utf8 may_be_empty (0xED ∷ 0x80 ∷ 0x7F ∷ [])), gets bad_character)
-    ∷ (told_check (string_rule utf8 may_be_empty (0xED ∷ 0x9F ∷ 0xC0 ∷ [])), gets bad_character)
-    ∷ (told_check (string_rule utf8 may_be_empty (0xEE ∷ 0x7F ∷ 0x80 ∷ [])), gets bad_character)
-    ∷ (told_check (string_rule utf8 may_be_empty (0xEF ∷ 0xC0 ∷ 0x80 ∷ [])), gets bad_character)
-    ∷ (told_check (string_rule utf8 may_be_empty (0xEE ∷ 0x80 ∷ 0x7F ∷ [])), gets bad_character)
-    ∷ (told_check (string_rule utf8 may_be_empty (0xEF ∷ 0xBF ∷ 0xC0 ∷ [])), gets bad_character)
-    ∷ (told_check (string_rule utf8 may_be_empty (0xF0 ∷ 0xC0 ∷ 0x80 ∷ 0x80 ∷ [])), gets bad_character)
-    ∷ (told_check (string_rule utf8 may_be_empty (0xF0 ∷ 0x90 ∷ 0x7F ∷ 0x80 ∷ [])), gets bad_character)
-    ∷ (told_check (string_rule utf8 may_be_empty (0xF0 ∷ 0xBF ∷ 0xC0 ∷ 0x80 ∷ [])), gets bad_character)
-    ∷ (told_check (string_rule utf8 may_be_empty (0xF0 ∷ 0x90 ∷ 0x80 ∷ 0x7F ∷ [])), gets bad_character)
-    ∷ (told_check (string_rule utf8 may_be_empty (0xF0 ∷ 0xBF ∷ 0xBF ∷ 0xC0 ∷ [])), gets bad_character)
-    ∷ (told_check (string_rule utf8 may_be_empty (0xF1 ∷ 0x7F ∷ 0x80 ∷ 0x80 ∷ [])), gets bad_character)
-    ∷ (told_check (string_rule utf8 may_be_empty (0xF3 ∷ 0xC0 ∷ 0x80 ∷ 0x80 ∷ [])), gets bad_character)
-    ∷ (told_check (string_rule utf8 may_be_empty (0xF1 ∷ 0x80 ∷ 0x7F ∷ 0x80 ∷ [])), gets bad_character)
-    ∷ (told_check (string_rule utf8 may_be_empty (0xF3 ∷ 0xBF ∷ 0xC0 ∷ 0x80 ∷ [])), gets bad_character)
-    ∷ (told_check (string_rule utf8 may_be_empty (0xF1 ∷ 0x80 ∷ 0x80 ∷ 0x7F ∷ [])), gets bad_character)
-    ∷ (told_check (string_rule utf8 may_be_empty (0xF3 ∷ 0xBF ∷ 0xBF ∷ 0xC0 ∷ [])), gets bad_character)
-    ∷ (told_check (string_rule utf8 may_be_empty (0xF4 ∷ 0x7F ∷ 0x80 ∷ 0x80 ∷ [])), gets bad_character)
-    ∷ (told_check (string_rule utf8 may_be_empty (0xF4 ∷ 0x80 ∷ 0x7F ∷ 0x80 ∷ [])), gets bad_character)
-    ∷ (told_check (string_rule utf8 may_be_empty (0xF4 ∷ 0x8F ∷ 0xC0 ∷ 0x80 ∷ [])), gets bad_character)
-    ∷ (told_check (string_rule utf8 may_be_empty (0xF4 ∷ 0x80 ∷ 0x80 ∷ 0x7F ∷ [])), gets bad_character)
-    ∷ (told_check (string_rule utf8 may_be_empty (0xF4 ∷ 0x8F ∷ 0xBF ∷ 0xC0 ∷ [])), gets bad_character)
+    ∷ (told_check (string_rule utf8 may_be_empty (0xC2 ∷ 0x7F ∷ [])), gets BadCharacter)
+    ∷ (told_check (string_rule utf8 may_be_empty (0xDF ∷ 0xC0 ∷ [])), gets BadCharacter)
+    ∷ (told_check (string_rule utf8 may_be_empty (0xE0 ∷ 0xA0 ∷ 0x7F ∷ [])), gets BadCharacter)
+    ∷ (told_check (string_rule utf8 may_be_empty (0xE0 ∷ 0xBF ∷ 0xC0 ∷ [])), gets BadCharacter)
+    ∷ (told_check (string_rule utf8 may_be_empty (0xE0 ∷ 0xC0 ∷ 0x80 ∷ [])), gets BadCharacter)
+    ∷ (told_check (string_rule utf8 may_be_empty (0xE1 ∷ 0x7F ∷ 0x80 ∷ [])), gets BadCharacter)
+    ∷ (told_check (string_rule utf8 may_be_empty (0xEC ∷ 0xC0 ∷ 0x80 ∷ [])), gets BadCharacter)
+    ∷ (told_check (string_rule utf8 may_be_empty (0xE1 ∷ 0x80 ∷ 0x7F ∷ [])), gets BadCharacter)
+    ∷ (told_check (string_rule utf8 may_be_empty (0xEC ∷ 0xBF ∷ 0xC0 ∷ [])), gets BadCharacter)
+    ∷ (told_check (string_rule utf8 may_be_empty (0xED ∷ 0x7F ∷ 0x80 ∷ [])), gets BadCharacter)
+    ∷ (told_check (string_rule utf8 may_be_empty (0xED ∷ 0x80 ∷ 0x7F ∷ [])), gets BadCharacter)
+    ∷ (told_check (string_rule utf8 may_be_empty (0xED ∷ 0x9F ∷ 0xC0 ∷ [])), gets BadCharacter)
+    ∷ (told_check (string_rule utf8 may_be_empty (0xEE ∷ 0x7F ∷ 0x80 ∷ [])), gets BadCharacter)
+    ∷ (told_check (string_rule utf8 may_be_empty (0xEF ∷ 0xC0 ∷ 0x80 ∷ [])), gets BadCharacter)
+    ∷ (told_check (string_rule utf8 may_be_empty (0xEE ∷ 0x80 ∷ 0x7F ∷ [])), gets BadCharacter)
+    ∷ (told_check (string_rule utf8 may_be_empty (0xEF ∷ 0xBF ∷ 0xC0 ∷ [])), gets BadCharacter)
+    ∷ (told_check (string_rule utf8 may_be_empty (0xF0 ∷ 0xC0 ∷ 0x80 ∷ 0x80 ∷ [])), gets BadCharacter)
+    ∷ (told_check (string_rule utf8 may_be_empty (0xF0 ∷ 0x90 ∷ 0x7F ∷ 0x80 ∷ [])), gets BadCharacter)
+    ∷ (told_check (string_rule utf8 may_be_empty (0xF0 ∷ 0xBF ∷ 0xC0 ∷ 0x80 ∷ [])), gets BadCharacter)
+    ∷ (told_check (string_rule utf8 may_be_empty (0xF0 ∷ 0x90 ∷ 0x80 ∷ 0x7F ∷ [])), gets BadCharacter)
+    ∷ (told_check (string_rule utf8 may_be_empty (0xF0 ∷ 0xBF ∷ 0xBF ∷ 0xC0 ∷ [])), gets BadCharacter)
+    ∷ (told_check (string_rule utf8 may_be_empty (0xF1 ∷ 0x7F ∷ 0x80 ∷ 0x80 ∷ [])), gets BadCharacter)
+    ∷ (told_check (string_rule utf8 may_be_empty (0xF3 ∷ 0xC0 ∷ 0x80 ∷ 0x80 ∷ [])), gets BadCharacter)
+    ∷ (told_check (string_rule utf8 may_be_empty (0xF1 ∷ 0x80 ∷ 0x7F ∷ 0x80 ∷ [])), gets BadCharacter)
+    ∷ (told_check (string_rule utf8 may_be_empty (0xF3 ∷ 0xBF ∷ 0xC0 ∷ 0x80 ∷ [])), gets BadCharacter)
+    ∷ (told_check (string_rule utf8 may_be_empty (0xF1 ∷ 0x80 ∷ 0x80 ∷ 0x7F ∷ [])), gets BadCharacter)
+    ∷ (told_check (string_rule utf8 may_be_empty (0xF3 ∷ 0xBF ∷ 0xBF ∷ 0xC0 ∷ [])), gets BadCharacter)
+    ∷ (told_check (string_rule utf8 may_be_empty (0xF4 ∷ 0x7F ∷ 0x80 ∷ 0x80 ∷ [])), gets BadCharacter)
+    ∷ (told_check (string_rule utf8 may_be_empty (0xF4 ∷ 0x80 ∷ 0x7F ∷ 0x80 ∷ [])), gets BadCharacter)
+    ∷ (told_check (string_rule utf8 may_be_empty (0xF4 ∷ 0x8F ∷ 0xC0 ∷ 0x80 ∷ [])), gets BadCharacter)
+    ∷ (told_check (string_rule utf8 may_be_empty (0xF4 ∷ 0x80 ∷ 0x80 ∷ 0x7F ∷ [])), gets BadCharacter)
+    ∷ (told_check (string_rule utf8 may_be_empty (0xF4 ∷ 0x8F ∷ 0xBF ∷ 0xC0 ∷ [])), gets BadCharacter)
     ∷ []
 
 abbrev in_printable : List ℕ → Told
@@ -134,7 +136,7 @@ bytes_from a (suc n) = a ∷ bytes_from (a + 1) n
 
 abbrev refused_each : List ℕ → List Row
 refused_each [] = []
-refused_each (b ∷ bs) = (in_printable (b ∷ []), gets bad_character) ∷ refused_each bs
+refused_each (b ∷ bs) = (in_printable (b ∷ []), gets BadCharacter) ∷ refused_each bs
 
 -- 9, "PrintableString as X.680": its 74 characters are taken, and each other byte, alone, is refused
 abbrev printables : List Row
@@ -147,7 +149,7 @@ printables =
     -- space ' ( ) + , - . / : = ?
     ∷ (in_printable (0x20 ∷ 0x27 ∷ 0x28 ∷ 0x29 ∷ 0x2B ∷ 0x2C ∷ 0x2D ∷ 0x2E ∷ 0x2F ∷ 0x3A ∷ 0x3D ∷ 0x3F ∷ []), told_none done)
     -- one that is refused after one that is taken
-    ∷ (in_printable (0x41 ∷ 0x2A ∷ []), gets bad_character)
+    ∷ (in_printable (0x41 ∷ 0x2A ∷ []), gets BadCharacter)
     -- 00 to 1F, 21 to 26, 2A, 3B and 3C, 3E, 40, 5B to 60, 7B to FF
     ∷ refused_each (bytes_from 0x00 32 ++ bytes_from 0x21 6 ++ (0x2A ∷ 0x3B ∷ 0x3C ∷ 0x3E ∷ 0x40 ∷ []) ++ bytes_from 0x5B 6 ++ bytes_from 0x7B 133)
 
@@ -156,23 +158,23 @@ abbrev ia5s : List Row
 ia5s =
     (told_check (string_rule ia5 may_be_empty (0x00 ∷ [])), told_none done)
     ∷ (told_check (string_rule ia5 may_be_empty (0x7F ∷ [])), told_none done)
-    ∷ (told_check (string_rule ia5 may_be_empty (0x80 ∷ [])), gets bad_character)
-    ∷ (told_check (string_rule ia5 may_be_empty (0x41 ∷ 0xFF ∷ [])), gets bad_character)
+    ∷ (told_check (string_rule ia5 may_be_empty (0x80 ∷ [])), gets BadCharacter)
+    ∷ (told_check (string_rule ia5 may_be_empty (0x41 ∷ 0xFF ∷ [])), gets BadCharacter)
     ∷ []
 
 -- 14: no bytes where some are needed, before 9
 abbrev empties : List Row
 empties =
     (told_check (string_rule ia5 never_empty (0x41 ∷ [])), told_none done)
-    ∷ (told_check (string_rule ia5 never_empty ([])), gets no_bytes)
-    ∷ (told_check (string_rule ia5 never_empty (0x80 ∷ [])), gets bad_character)
+    ∷ (told_check (string_rule ia5 never_empty ([])), gets NoBytes)
+    ∷ (told_check (string_rule ia5 never_empty (0x80 ∷ [])), gets BadCharacter)
     ∷ []
 
 -- 14 of an OCTET STRING
 abbrev octets : List Row
 octets =
     (told_check (octets_rule never_empty (0x00 ∷ [])), told_none done)
-    ∷ (told_check (octets_rule never_empty ([])), gets no_bytes)
+    ∷ (told_check (octets_rule never_empty ([])), gets NoBytes)
     ∷ []
 
 -- a value that may have no bytes
@@ -186,25 +188,25 @@ values =
 abbrev header_names : List Row
 header_names =
     (told_check (known_rule header_name (0x45 ∷ 0x53 ∷ [])), told_none done)
-    ∷ (told_check (known_rule header_name (0x45 ∷ 0x58 ∷ [])), gets not_es)
-    ∷ (told_check (known_rule header_name (0x65 ∷ 0x73 ∷ [])), gets not_es)
-    ∷ (told_check (known_rule header_name (0x53 ∷ 0x45 ∷ [])), gets not_es)
-    ∷ (told_check (known_rule header_name (0x45 ∷ [])), gets not_es)
-    ∷ (told_check (known_rule header_name (0x45 ∷ 0x53 ∷ 0x00 ∷ [])), gets not_es)
-    ∷ (told_check (known_rule header_name ([])), gets no_bytes)
-    ∷ (told_check (known_rule header_name (0x45 ∷ 0xD3 ∷ [])), gets bad_character)
+    ∷ (told_check (known_rule header_name (0x45 ∷ 0x58 ∷ [])), gets NotEs)
+    ∷ (told_check (known_rule header_name (0x65 ∷ 0x73 ∷ [])), gets NotEs)
+    ∷ (told_check (known_rule header_name (0x53 ∷ 0x45 ∷ [])), gets NotEs)
+    ∷ (told_check (known_rule header_name (0x45 ∷ [])), gets NotEs)
+    ∷ (told_check (known_rule header_name (0x45 ∷ 0x53 ∷ 0x00 ∷ [])), gets NotEs)
+    ∷ (told_check (known_rule header_name ([])), gets NoBytes)
+    ∷ (told_check (known_rule header_name (0x45 ∷ 0xD3 ∷ [])), gets BadCharacter)
     ∷ []
 
 -- "INTEGER 4": "6 before 7"
 abbrev versions : List Row
 versions =
     (told_check (known_rule version (0x04 ∷ [])), told_none done)
-    ∷ (told_check (known_rule version (0x03 ∷ [])), gets not_allowed)
-    ∷ (told_check (known_rule version (0x05 ∷ [])), gets not_allowed)
-    ∷ (told_check (known_rule version (0xFC ∷ [])), gets not_allowed)
-    ∷ (told_check (known_rule version (0x04 ∷ 0x04 ∷ [])), gets not_allowed)
-    ∷ (told_check (known_rule version (0x00 ∷ 0x04 ∷ [])), gets bad_integer)
-    ∷ (told_check (known_rule version ([])), gets bad_integer)
+    ∷ (told_check (known_rule version (0x03 ∷ [])), gets NotAllowed)
+    ∷ (told_check (known_rule version (0x05 ∷ [])), gets NotAllowed)
+    ∷ (told_check (known_rule version (0xFC ∷ [])), gets NotAllowed)
+    ∷ (told_check (known_rule version (0x04 ∷ 0x04 ∷ [])), gets NotAllowed)
+    ∷ (told_check (known_rule version (0x00 ∷ 0x04 ∷ [])), gets BadInteger)
+    ∷ (told_check (known_rule version ([])), gets BadInteger)
     ∷ []
 
 -- 14: no byte behind the 00
@@ -212,17 +214,17 @@ abbrev bit_strings : List Row
 bit_strings =
     (told_check (rule_of bit_string.holds (0xCC ∷ [])), told_none done)
     ∷ (told_check (rule_of bit_string.holds (0x00 ∷ [])), told_none done)
-    ∷ (told_check (rule_of bit_string.holds []), gets no_bytes)
+    ∷ (told_check (rule_of bit_string.holds []), gets NoBytes)
     ∷ []
 
 -- 13: FF alone
 abbrev booleans : List Row
 booleans =
     (told_check (boolean_rule (0xFF ∷ [])), told_none done)
-    ∷ (told_check (boolean_rule (0x00 ∷ [])), gets bad_boolean)
-    ∷ (told_check (boolean_rule (0x01 ∷ [])), gets bad_boolean)
-    ∷ (told_check (boolean_rule ([])), gets bad_boolean)
-    ∷ (told_check (boolean_rule (0xFF ∷ 0xFF ∷ [])), gets bad_boolean)
+    ∷ (told_check (boolean_rule (0x00 ∷ [])), gets BadBoolean)
+    ∷ (told_check (boolean_rule (0x01 ∷ [])), gets BadBoolean)
+    ∷ (told_check (boolean_rule ([])), gets BadBoolean)
+    ∷ (told_check (boolean_rule (0xFF ∷ 0xFF ∷ [])), gets BadBoolean)
     ∷ []
 
 -- 11: empty, 65 bytes, a part that begins with 80, a last byte of 80 or above
@@ -234,13 +236,13 @@ identifiers =
     -- a part with 80 inside and 7F at its end, a part of 7F
     ∷ (told_check (identifier_rule (0x2A ∷ 0x81 ∷ 0x80 ∷ 0x7F ∷ 0x7F ∷ [])), told_none done)
     ∷ (told_check (identifier_rule (replicate 64 0x2A)), told_none done)
-    ∷ (told_check (identifier_rule ([])), gets bad_identifier)
-    ∷ (told_check (identifier_rule (replicate 65 0x2A)), gets bad_identifier)
-    ∷ (told_check (identifier_rule (0x2A ∷ 0x80 ∷ 0x01 ∷ [])), gets bad_identifier)
-    ∷ (told_check (identifier_rule (0x80 ∷ 0x01 ∷ [])), gets bad_identifier)
-    ∷ (told_check (identifier_rule (0x2A ∷ 0x81 ∷ [])), gets bad_identifier)
-    ∷ (told_check (identifier_rule (0x81 ∷ [])), gets bad_identifier)
-    ∷ (told_check (identifier_rule (0x2A ∷ 0x81 ∷ 0x80 ∷ [])), gets bad_identifier)
+    ∷ (told_check (identifier_rule ([])), gets BadIdentifier)
+    ∷ (told_check (identifier_rule (replicate 65 0x2A)), gets BadIdentifier)
+    ∷ (told_check (identifier_rule (0x2A ∷ 0x80 ∷ 0x01 ∷ [])), gets BadIdentifier)
+    ∷ (told_check (identifier_rule (0x80 ∷ 0x01 ∷ [])), gets BadIdentifier)
+    ∷ (told_check (identifier_rule (0x2A ∷ 0x81 ∷ [])), gets BadIdentifier)
+    ∷ (told_check (identifier_rule (0x81 ∷ [])), gets BadIdentifier)
+    ∷ (told_check (identifier_rule (0x2A ∷ 0x81 ∷ 0x80 ∷ [])), gets BadIdentifier)
     ∷ []
 
 -- 10: the Gregorian rule, hours, minutes and seconds, another length, another character
@@ -263,38 +265,38 @@ times =
     ∷ (told_check (time_rule (0x32 ∷ 0x30 ∷ 0x32 ∷ 0x33 ∷ 0x31 ∷ 0x30 ∷ 0x33 ∷ 0x31 ∷ 0x30 ∷ 0x30 ∷ 0x30 ∷ 0x30 ∷ 0x30 ∷ 0x30 ∷ 0x5A ∷ [])), told_none done)
     ∷ (told_check (time_rule (0x32 ∷ 0x30 ∷ 0x32 ∷ 0x33 ∷ 0x31 ∷ 0x31 ∷ 0x33 ∷ 0x30 ∷ 0x30 ∷ 0x30 ∷ 0x30 ∷ 0x30 ∷ 0x30 ∷ 0x30 ∷ 0x5A ∷ [])), told_none done)
     ∷ (told_check (time_rule (0x32 ∷ 0x30 ∷ 0x32 ∷ 0x33 ∷ 0x31 ∷ 0x32 ∷ 0x33 ∷ 0x31 ∷ 0x30 ∷ 0x30 ∷ 0x30 ∷ 0x30 ∷ 0x30 ∷ 0x30 ∷ 0x5A ∷ [])), told_none done)
-    ∷ (told_check (time_rule (0x31 ∷ 0x39 ∷ 0x30 ∷ 0x30 ∷ 0x30 ∷ 0x32 ∷ 0x32 ∷ 0x39 ∷ 0x30 ∷ 0x30 ∷ 0x30 ∷ 0x30 ∷ 0x30 ∷ 0x30 ∷ 0x5A ∷ [])), gets bad_time)
-    ∷ (told_check (time_rule (0x32 ∷ 0x30 ∷ 0x32 ∷ 0x33 ∷ 0x30 ∷ 0x32 ∷ 0x32 ∷ 0x39 ∷ 0x30 ∷ 0x30 ∷ 0x30 ∷ 0x30 ∷ 0x30 ∷ 0x30 ∷ 0x5A ∷ [])), gets bad_time)
-    ∷ (told_check (time_rule (0x32 ∷ 0x31 ∷ 0x30 ∷ 0x30 ∷ 0x30 ∷ 0x32 ∷ 0x32 ∷ 0x39 ∷ 0x30 ∷ 0x30 ∷ 0x30 ∷ 0x30 ∷ 0x30 ∷ 0x30 ∷ 0x5A ∷ [])), gets bad_time)
-    ∷ (told_check (time_rule (0x32 ∷ 0x30 ∷ 0x32 ∷ 0x34 ∷ 0x30 ∷ 0x32 ∷ 0x33 ∷ 0x30 ∷ 0x30 ∷ 0x30 ∷ 0x30 ∷ 0x30 ∷ 0x30 ∷ 0x30 ∷ 0x5A ∷ [])), gets bad_time)
-    ∷ (told_check (time_rule (0x32 ∷ 0x30 ∷ 0x32 ∷ 0x33 ∷ 0x30 ∷ 0x34 ∷ 0x33 ∷ 0x31 ∷ 0x30 ∷ 0x30 ∷ 0x30 ∷ 0x30 ∷ 0x30 ∷ 0x30 ∷ 0x5A ∷ [])), gets bad_time)
-    ∷ (told_check (time_rule (0x32 ∷ 0x30 ∷ 0x32 ∷ 0x33 ∷ 0x30 ∷ 0x36 ∷ 0x33 ∷ 0x31 ∷ 0x30 ∷ 0x30 ∷ 0x30 ∷ 0x30 ∷ 0x30 ∷ 0x30 ∷ 0x5A ∷ [])), gets bad_time)
-    ∷ (told_check (time_rule (0x32 ∷ 0x30 ∷ 0x32 ∷ 0x33 ∷ 0x30 ∷ 0x39 ∷ 0x33 ∷ 0x31 ∷ 0x30 ∷ 0x30 ∷ 0x30 ∷ 0x30 ∷ 0x30 ∷ 0x30 ∷ 0x5A ∷ [])), gets bad_time)
-    ∷ (told_check (time_rule (0x32 ∷ 0x30 ∷ 0x32 ∷ 0x33 ∷ 0x31 ∷ 0x31 ∷ 0x33 ∷ 0x31 ∷ 0x30 ∷ 0x30 ∷ 0x30 ∷ 0x30 ∷ 0x30 ∷ 0x30 ∷ 0x5A ∷ [])), gets bad_time)
-    ∷ (told_check (time_rule (0x32 ∷ 0x30 ∷ 0x32 ∷ 0x33 ∷ 0x30 ∷ 0x31 ∷ 0x33 ∷ 0x32 ∷ 0x30 ∷ 0x30 ∷ 0x30 ∷ 0x30 ∷ 0x30 ∷ 0x30 ∷ 0x5A ∷ [])), gets bad_time)
-    ∷ (told_check (time_rule (0x32 ∷ 0x30 ∷ 0x32 ∷ 0x33 ∷ 0x30 ∷ 0x31 ∷ 0x30 ∷ 0x30 ∷ 0x30 ∷ 0x30 ∷ 0x30 ∷ 0x30 ∷ 0x30 ∷ 0x30 ∷ 0x5A ∷ [])), gets bad_time)
-    ∷ (told_check (time_rule (0x32 ∷ 0x30 ∷ 0x32 ∷ 0x33 ∷ 0x30 ∷ 0x30 ∷ 0x30 ∷ 0x31 ∷ 0x30 ∷ 0x30 ∷ 0x30 ∷ 0x30 ∷ 0x30 ∷ 0x30 ∷ 0x5A ∷ [])), gets bad_time)
-    ∷ (told_check (time_rule (0x32 ∷ 0x30 ∷ 0x32 ∷ 0x33 ∷ 0x31 ∷ 0x33 ∷ 0x30 ∷ 0x31 ∷ 0x30 ∷ 0x30 ∷ 0x30 ∷ 0x30 ∷ 0x30 ∷ 0x30 ∷ 0x5A ∷ [])), gets bad_time)
-    ∷ (told_check (time_rule (0x32 ∷ 0x30 ∷ 0x32 ∷ 0x33 ∷ 0x30 ∷ 0x31 ∷ 0x30 ∷ 0x31 ∷ 0x32 ∷ 0x34 ∷ 0x30 ∷ 0x30 ∷ 0x30 ∷ 0x30 ∷ 0x5A ∷ [])), gets bad_time)
-    ∷ (told_check (time_rule (0x32 ∷ 0x30 ∷ 0x32 ∷ 0x33 ∷ 0x30 ∷ 0x31 ∷ 0x30 ∷ 0x31 ∷ 0x30 ∷ 0x30 ∷ 0x36 ∷ 0x30 ∷ 0x30 ∷ 0x30 ∷ 0x5A ∷ [])), gets bad_time)
-    ∷ (told_check (time_rule (0x32 ∷ 0x30 ∷ 0x32 ∷ 0x33 ∷ 0x30 ∷ 0x31 ∷ 0x30 ∷ 0x31 ∷ 0x30 ∷ 0x30 ∷ 0x30 ∷ 0x30 ∷ 0x36 ∷ 0x30 ∷ 0x5A ∷ [])), gets bad_time)
-    ∷ (told_check (time_rule (0x32 ∷ 0x30 ∷ 0x32 ∷ 0x33 ∷ 0x30 ∷ 0x31 ∷ 0x30 ∷ 0x31 ∷ 0x30 ∷ 0x30 ∷ 0x30 ∷ 0x30 ∷ 0x30 ∷ 0x30 ∷ [])), gets bad_time)
-    ∷ (told_check (time_rule (0x32 ∷ 0x30 ∷ 0x32 ∷ 0x33 ∷ 0x30 ∷ 0x31 ∷ 0x30 ∷ 0x31 ∷ 0x30 ∷ 0x30 ∷ 0x30 ∷ 0x30 ∷ 0x30 ∷ 0x5A ∷ [])), gets bad_time)
-    ∷ (told_check (time_rule (0x32 ∷ 0x30 ∷ 0x32 ∷ 0x33 ∷ 0x30 ∷ 0x31 ∷ 0x30 ∷ 0x31 ∷ 0x30 ∷ 0x30 ∷ 0x30 ∷ 0x30 ∷ 0x30 ∷ 0x30 ∷ 0x7A ∷ [])), gets bad_time)
-    ∷ (told_check (time_rule (0x32 ∷ 0x30 ∷ 0x32 ∷ 0x33 ∷ 0x30 ∷ 0x31 ∷ 0x30 ∷ 0x31 ∷ 0x30 ∷ 0x30 ∷ 0x30 ∷ 0x30 ∷ 0x30 ∷ 0x30 ∷ 0x2B ∷ [])), gets bad_time)
-    ∷ (told_check (time_rule (0x32 ∷ 0x30 ∷ 0x32 ∷ 0x33 ∷ 0x30 ∷ 0x31 ∷ 0x30 ∷ 0x31 ∷ 0x30 ∷ 0x30 ∷ 0x30 ∷ 0x30 ∷ 0x30 ∷ 0x30 ∷ 0x5A ∷ 0x5A ∷ [])), gets bad_time)
-    ∷ (told_check (time_rule (0x32 ∷ 0x30 ∷ 0x32 ∷ 0x33 ∷ 0x30 ∷ 0x31 ∷ 0x30 ∷ 0x31 ∷ 0x30 ∷ 0x30 ∷ 0x30 ∷ 0x30 ∷ 0x30 ∷ 0x30 ∷ 0x2E ∷ 0x35 ∷ 0x5A ∷ [])), gets bad_time)
-    ∷ (told_check (time_rule (0x32 ∷ 0x30 ∷ 0x32 ∷ 0x33 ∷ 0x30 ∷ 0x31 ∷ 0x30 ∷ 0x31 ∷ 0x30 ∷ 0x30 ∷ 0x30 ∷ 0x30 ∷ 0x30 ∷ 0x3A ∷ 0x5A ∷ [])), gets bad_time)
-    ∷ (told_check (time_rule (0x32 ∷ 0x30 ∷ 0x32 ∷ 0x33 ∷ 0x30 ∷ 0x31 ∷ 0x30 ∷ 0x31 ∷ 0x30 ∷ 0x30 ∷ 0x30 ∷ 0x30 ∷ 0x30 ∷ 0x2F ∷ 0x5A ∷ [])), gets bad_time)
+    ∷ (told_check (time_rule (0x31 ∷ 0x39 ∷ 0x30 ∷ 0x30 ∷ 0x30 ∷ 0x32 ∷ 0x32 ∷ 0x39 ∷ 0x30 ∷ 0x30 ∷ 0x30 ∷ 0x30 ∷ 0x30 ∷ 0x30 ∷ 0x5A ∷ [])), gets BadTime)
+    ∷ (told_check (time_rule (0x32 ∷ 0x30 ∷ 0x32 ∷ 0x33 ∷ 0x30 ∷ 0x32 ∷ 0x32 ∷ 0x39 ∷ 0x30 ∷ 0x30 ∷ 0x30 ∷ 0x30 ∷ 0x30 ∷ 0x30 ∷ 0x5A ∷ [])), gets BadTime)
+    ∷ (told_check (time_rule (0x32 ∷ 0x31 ∷ 0x30 ∷ 0x30 ∷ 0x30 ∷ 0x32 ∷ 0x32 ∷ 0x39 ∷ 0x30 ∷ 0x30 ∷ 0x30 ∷ 0x30 ∷ 0x30 ∷ 0x30 ∷ 0x5A ∷ [])), gets BadTime)
+    ∷ (told_check (time_rule (0x32 ∷ 0x30 ∷ 0x32 ∷ 0x34 ∷ 0x30 ∷ 0x32 ∷ 0x33 ∷ 0x30 ∷ 0x30 ∷ 0x30 ∷ 0x30 ∷ 0x30 ∷ 0x30 ∷ 0x30 ∷ 0x5A ∷ [])), gets BadTime)
+    ∷ (told_check (time_rule (0x32 ∷ 0x30 ∷ 0x32 ∷ 0x33 ∷ 0x30 ∷ 0x34 ∷ 0x33 ∷ 0x31 ∷ 0x30 ∷ 0x30 ∷ 0x30 ∷ 0x30 ∷ 0x30 ∷ 0x30 ∷ 0x5A ∷ [])), gets BadTime)
+    ∷ (told_check (time_rule (0x32 ∷ 0x30 ∷ 0x32 ∷ 0x33 ∷ 0x30 ∷ 0x36 ∷ 0x33 ∷ 0x31 ∷ 0x30 ∷ 0x30 ∷ 0x30 ∷ 0x30 ∷ 0x30 ∷ 0x30 ∷ 0x5A ∷ [])), gets BadTime)
+    ∷ (told_check (time_rule (0x32 ∷ 0x30 ∷ 0x32 ∷ 0x33 ∷ 0x30 ∷ 0x39 ∷ 0x33 ∷ 0x31 ∷ 0x30 ∷ 0x30 ∷ 0x30 ∷ 0x30 ∷ 0x30 ∷ 0x30 ∷ 0x5A ∷ [])), gets BadTime)
+    ∷ (told_check (time_rule (0x32 ∷ 0x30 ∷ 0x32 ∷ 0x33 ∷ 0x31 ∷ 0x31 ∷ 0x33 ∷ 0x31 ∷ 0x30 ∷ 0x30 ∷ 0x30 ∷ 0x30 ∷ 0x30 ∷ 0x30 ∷ 0x5A ∷ [])), gets BadTime)
+    ∷ (told_check (time_rule (0x32 ∷ 0x30 ∷ 0x32 ∷ 0x33 ∷ 0x30 ∷ 0x31 ∷ 0x33 ∷ 0x32 ∷ 0x30 ∷ 0x30 ∷ 0x30 ∷ 0x30 ∷ 0x30 ∷ 0x30 ∷ 0x5A ∷ [])), gets BadTime)
+    ∷ (told_check (time_rule (0x32 ∷ 0x30 ∷ 0x32 ∷ 0x33 ∷ 0x30 ∷ 0x31 ∷ 0x30 ∷ 0x30 ∷ 0x30 ∷ 0x30 ∷ 0x30 ∷ 0x30 ∷ 0x30 ∷ 0x30 ∷ 0x5A ∷ [])), gets BadTime)
+    ∷ (told_check (time_rule (0x32 ∷ 0x30 ∷ 0x32 ∷ 0x33 ∷ 0x30 ∷ 0x30 ∷ 0x30 ∷ 0x31 ∷ 0x30 ∷ 0x30 ∷ 0x30 ∷ 0x30 ∷ 0x30 ∷ 0x30 ∷ 0x5A ∷ [])), gets BadTime)
+    ∷ (told_check (time_rule (0x32 ∷ 0x30 ∷ 0x32 ∷ 0x33 ∷ 0x31 ∷ 0x33 ∷ 0x30 ∷ 0x31 ∷ 0x30 ∷ 0x30 ∷ 0x30 ∷ 0x30 ∷ 0x30 ∷ 0x30 ∷ 0x5A ∷ [])), gets BadTime)
+    ∷ (told_check (time_rule (0x32 ∷ 0x30 ∷ 0x32 ∷ 0x33 ∷ 0x30 ∷ 0x31 ∷ 0x30 ∷ 0x31 ∷ 0x32 ∷ 0x34 ∷ 0x30 ∷ 0x30 ∷ 0x30 ∷ 0x30 ∷ 0x5A ∷ [])), gets BadTime)
+    ∷ (told_check (time_rule (0x32 ∷ 0x30 ∷ 0x32 ∷ 0x33 ∷ 0x30 ∷ 0x31 ∷ 0x30 ∷ 0x31 ∷ 0x30 ∷ 0x30 ∷ 0x36 ∷ 0x30 ∷ 0x30 ∷ 0x30 ∷ 0x5A ∷ [])), gets BadTime)
+    ∷ (told_check (time_rule (0x32 ∷ 0x30 ∷ 0x32 ∷ 0x33 ∷ 0x30 ∷ 0x31 ∷ 0x30 ∷ 0x31 ∷ 0x30 ∷ 0x30 ∷ 0x30 ∷ 0x30 ∷ 0x36 ∷ 0x30 ∷ 0x5A ∷ [])), gets BadTime)
+    ∷ (told_check (time_rule (0x32 ∷ 0x30 ∷ 0x32 ∷ 0x33 ∷ 0x30 ∷ 0x31 ∷ 0x30 ∷ 0x31 ∷ 0x30 ∷ 0x30 ∷ 0x30 ∷ 0x30 ∷ 0x30 ∷ 0x30 ∷ [])), gets BadTime)
+    ∷ (told_check (time_rule (0x32 ∷ 0x30 ∷ 0x32 ∷ 0x33 ∷ 0x30 ∷ 0x31 ∷ 0x30 ∷ 0x31 ∷ 0x30 ∷ 0x30 ∷ 0x30 ∷ 0x30 ∷ 0x30 ∷ 0x5A ∷ [])), gets BadTime)
+    ∷ (told_check (time_rule (0x32 ∷ 0x30 ∷ 0x32 ∷ 0x33 ∷ 0x30 ∷ 0x31 ∷ 0x30 ∷ 0x31 ∷ 0x30 ∷ 0x30 ∷ 0x30 ∷ 0x30 ∷ 0x30 ∷ 0x30 ∷ 0x7A ∷ [])), gets BadTime)
+    ∷ (told_check (time_rule (0x32 ∷ 0x30 ∷ 0x32 ∷ 0x33 ∷ 0x30 ∷ 0x31 ∷ 0x30 ∷ 0x31 ∷ 0x30 ∷ 0x30 ∷ 0x30 ∷ 0x30 ∷ 0x30 ∷ 0x30 ∷ 0x2B ∷ [])), gets BadTime)
+    ∷ (told_check (time_rule (0x32 ∷ 0x30 ∷ 0x32 ∷ 0x33 ∷ 0x30 ∷ 0x31 ∷ 0x30 ∷ 0x31 ∷ 0x30 ∷ 0x30 ∷ 0x30 ∷ 0x30 ∷ 0x30 ∷ 0x30 ∷ 0x5A ∷ 0x5A ∷ [])), gets BadTime)
+    ∷ (told_check (time_rule (0x32 ∷ 0x30 ∷ 0x32 ∷ 0x33 ∷ 0x30 ∷ 0x31 ∷ 0x30 ∷ 0x31 ∷ 0x30 ∷ 0x30 ∷ 0x30 ∷ 0x30 ∷ 0x30 ∷ 0x30 ∷ 0x2E ∷ 0x35 ∷ 0x5A ∷ [])), gets BadTime)
+    ∷ (told_check (time_rule (0x32 ∷ 0x30 ∷ 0x32 ∷ 0x33 ∷ 0x30 ∷ 0x31 ∷ 0x30 ∷ 0x31 ∷ 0x30 ∷ 0x30 ∷ 0x30 ∷ 0x30 ∷ 0x30 ∷ 0x3A ∷ 0x5A ∷ [])), gets BadTime)
+    ∷ (told_check (time_rule (0x32 ∷ 0x30 ∷ 0x32 ∷ 0x33 ∷ 0x30 ∷ 0x31 ∷ 0x30 ∷ 0x31 ∷ 0x30 ∷ 0x30 ∷ 0x30 ∷ 0x30 ∷ 0x30 ∷ 0x2F ∷ 0x5A ∷ [])), gets BadTime)
     -- the thirty-second of each other month of 31 days
-    ∷ (told_check (time_rule (0x32 ∷ 0x30 ∷ 0x32 ∷ 0x33 ∷ 0x30 ∷ 0x33 ∷ 0x33 ∷ 0x32 ∷ 0x30 ∷ 0x30 ∷ 0x30 ∷ 0x30 ∷ 0x30 ∷ 0x30 ∷ 0x5A ∷ [])), gets bad_time)
-    ∷ (told_check (time_rule (0x32 ∷ 0x30 ∷ 0x32 ∷ 0x33 ∷ 0x30 ∷ 0x35 ∷ 0x33 ∷ 0x32 ∷ 0x30 ∷ 0x30 ∷ 0x30 ∷ 0x30 ∷ 0x30 ∷ 0x30 ∷ 0x5A ∷ [])), gets bad_time)
-    ∷ (told_check (time_rule (0x32 ∷ 0x30 ∷ 0x32 ∷ 0x33 ∷ 0x30 ∷ 0x37 ∷ 0x33 ∷ 0x32 ∷ 0x30 ∷ 0x30 ∷ 0x30 ∷ 0x30 ∷ 0x30 ∷ 0x30 ∷ 0x5A ∷ [])), gets bad_time)
-    ∷ (told_check (time_rule (0x32 ∷ 0x30 ∷ 0x32 ∷ 0x33 ∷ 0x30 ∷ 0x38 ∷ 0x33 ∷ 0x32 ∷ 0x30 ∷ 0x30 ∷ 0x30 ∷ 0x30 ∷ 0x30 ∷ 0x30 ∷ 0x5A ∷ [])), gets bad_time)
-    ∷ (told_check (time_rule (0x32 ∷ 0x30 ∷ 0x32 ∷ 0x33 ∷ 0x31 ∷ 0x30 ∷ 0x33 ∷ 0x32 ∷ 0x30 ∷ 0x30 ∷ 0x30 ∷ 0x30 ∷ 0x30 ∷ 0x30 ∷ 0x5A ∷ [])), gets bad_time)
-    ∷ (told_check (time_rule (0x32 ∷ 0x30 ∷ 0x32 ∷ 0x33 ∷ 0x31 ∷ 0x32 ∷ 0x33 ∷ 0x32 ∷ 0x30 ∷ 0x30 ∷ 0x30 ∷ 0x30 ∷ 0x30 ∷ 0x30 ∷ 0x5A ∷ [])), gets bad_time)
-    ∷ (told_check (time_rule ([])), gets bad_time)
-    ∷ (told_check (time_rule (0x5A ∷ [])), gets bad_time)
+    ∷ (told_check (time_rule (0x32 ∷ 0x30 ∷ 0x32 ∷ 0x33 ∷ 0x30 ∷ 0x33 ∷ 0x33 ∷ 0x32 ∷ 0x30 ∷ 0x30 ∷ 0x30 ∷ 0x30 ∷ 0x30 ∷ 0x30 ∷ 0x5A ∷ [])), gets BadTime)
+    ∷ (told_check (time_rule (0x32 ∷ 0x30 ∷ 0x32 ∷ 0x33 ∷ 0x30 ∷ 0x35 ∷ 0x33 ∷ 0x32 ∷ 0x30 ∷ 0x30 ∷ 0x30 ∷ 0x30 ∷ 0x30 ∷ 0x30 ∷ 0x5A ∷ [])), gets BadTime)
+    ∷ (told_check (time_rule (0x32 ∷ 0x30 ∷ 0x32 ∷ 0x33 ∷ 0x30 ∷ 0x37 ∷ 0x33 ∷ 0x32 ∷ 0x30 ∷ 0x30 ∷ 0x30 ∷ 0x30 ∷ 0x30 ∷ 0x30 ∷ 0x5A ∷ [])), gets BadTime)
+    ∷ (told_check (time_rule (0x32 ∷ 0x30 ∷ 0x32 ∷ 0x33 ∷ 0x30 ∷ 0x38 ∷ 0x33 ∷ 0x32 ∷ 0x30 ∷ 0x30 ∷ 0x30 ∷ 0x30 ∷ 0x30 ∷ 0x30 ∷ 0x5A ∷ [])), gets BadTime)
+    ∷ (told_check (time_rule (0x32 ∷ 0x30 ∷ 0x32 ∷ 0x33 ∷ 0x31 ∷ 0x30 ∷ 0x33 ∷ 0x32 ∷ 0x30 ∷ 0x30 ∷ 0x30 ∷ 0x30 ∷ 0x30 ∷ 0x30 ∷ 0x5A ∷ [])), gets BadTime)
+    ∷ (told_check (time_rule (0x32 ∷ 0x30 ∷ 0x32 ∷ 0x33 ∷ 0x31 ∷ 0x32 ∷ 0x33 ∷ 0x32 ∷ 0x30 ∷ 0x30 ∷ 0x30 ∷ 0x30 ∷ 0x30 ∷ 0x30 ∷ 0x5A ∷ [])), gets BadTime)
+    ∷ (told_check (time_rule ([])), gets BadTime)
+    ∷ (told_check (time_rule (0x5A ∷ [])), gets BadTime)
     ∷ []
 
 -- ---- one statement over all of them

@@ -1,7 +1,8 @@
 -- The primitive items of document 01: what each holds, and its section in a sheet. Assumes nothing.
 use Rattle.std.specs.Prelude.{Bool, List, [], ◌∷◌, ℕ, ℤ}
 use Rattle.std.proofs.Math.Option.{Option, some}
-use Rattle.terms.specs.Numbers.{not_allowed, not_es}
+use Rattle.terms.specs.declared.Reason.{Reason}
+use Rattle.terms.specs.declared.Reason.TheVariants.{NotAllowed, NotEs}
 use Rattle.terms.specs.Answer.{never_empty}
 use Rattle.contents.specs.Content.{Check}
 use Rattle.contents.specs.Integer.{stretch, unstretch, any}
@@ -68,11 +69,11 @@ generalized_time = plain 0x18 time_rule
 abbrev pub boolean : Leaf
 boolean = plain 0x01 boolean_rule
 
--- a primitive item that has one content only, and the number that any other is refused with, after its own rule
+-- a primitive item that has one content only, and why any other is refused, after its own rule
 pub record Known : Type 0 where
   pub leaf : Leaf
   pub content : List ℕ
-  pub other : ℕ
+  pub other : Reason
 
 abbrev pub known_rule : Known → List ℕ → Check
 known_rule k = only_rule (rule_of k.leaf.holds) k.content k.other
@@ -83,8 +84,8 @@ only k = plain k.leaf.tag (known_rule k)
 
 -- "IA5String "ES"": 14, 9, then 8
 abbrev pub header_name : Known
-header_name = record { leaf = ia5_string never_empty; content = 0x45 ∷ 0x53 ∷ []; other = not_es }
+header_name = record { leaf = ia5_string never_empty; content = 0x45 ∷ 0x53 ∷ []; other = NotEs }
 
 -- "INTEGER 4": 6, then 7
 abbrev pub version : Known
-version = record { leaf = integer any; content = 0x04 ∷ []; other = not_allowed }
+version = record { leaf = integer any; content = 0x04 ∷ []; other = NotAllowed }

@@ -1,6 +1,6 @@
 -- GeneralizedTime, and moments (01, "Encoding" and "Findings and verdicts"). Assumes nothing.
 use Rattle.std.specs.Prelude.{ℕ, suc, zero, ◌+◌, ◌*◌, ◌-◌, ◌%◌, ◌^◌, Bool, not, ◌&&◌, ◌||◌, List, [], ◌∷◌, ◌++◌, map, get_or, leb, ltb, eqb}
-use Rattle.terms.specs.Numbers.{bad_time}
+use Rattle.terms.specs.declared.Reason.TheVariants.{BadTime}
 use Rattle.terms.specs.Answer.{Res, good, fault, Got, got, pick, bind, need, same}
 use Rattle.terms.specs.Digits.{digits}
 use Rattle.contents.specs.Content.{Check, fine, wrong, tag, ask, passes}
@@ -28,17 +28,17 @@ is_digit d = leb 0x30 d && leb d 0x39
 -- `k` digits more of a number from `low` to `high`, of which `n` was read
 unfoldable pub part_from : ℕ → ℕ → ℕ → ℕ → List ℕ → ℕ → Res (Got ℕ)
 part_from zero low high n w b = good (got n w b)
-part_from (suc k) low high n [] b = fault bad_time b
+part_from (suc k) low high n [] b = fault BadTime b
 part_from (suc k) low high n (d ∷ w) b =
-    need (is_digit d && possible low high k (n * 10 + (d - 0x30))) bad_time b (part_from k low high (n * 10 + (d - 0x30)) w (b + 1))
+    need (is_digit d && possible low high k (n * 10 + (d - 0x30))) BadTime b (part_from k low high (n * 10 + (d - 0x30)) w (b + 1))
 
 abbrev part : ℕ → ℕ → ℕ → Got ℕ → Res (Got ℕ)
 part k low high x = part_from k low high 0 x.rest x.after
 
 -- the closing Z
 unfoldable pub zulu : List ℕ → ℕ → Res (Got (Unit {0}))
-zulu [] b = fault bad_time b
-zulu (z ∷ w) b = need (eqb z 0x5A) bad_time b (good (got tt w (b + 1)))
+zulu [] b = fault BadTime b
+zulu (z ∷ w) b = need (eqb z 0x5A) BadTime b (good (got tt w (b + 1)))
 
 -- a moment, by the number that its digits make: year, month, day, hour, minute and second
 pub data Moment : Type 0 where
@@ -70,8 +70,8 @@ time_from width w b =
 -- ---- a time of a record
 
 unfoldable pub time_check : Res (Got Moment) → Check
-time_check (good x) = ask (same x.rest []) bad_time fine
-time_check (fault n p) = wrong bad_time tag
+time_check (good x) = ask (same x.rest []) BadTime fine
+time_check (fault n p) = wrong BadTime tag
 
 unfoldable pub time_rule : List ℕ → Check
 time_rule c = time_check (time_from year_digits c 0)

@@ -1,8 +1,2 @@
-// What a content's rule says: it is inside the rules, or the refusal's number and place.
+// The rules of contents, which have no code of their own here.
 #![tactic(auto)]
-
-#[derive(Clone, Copy)]
-pub enum Checked {
-    Fine,
-    Wrong(u8, usize),
-}

@@ -14,6 +14,7 @@ ghost use Rattle.ennavizhil.specs.Judged.{asked_verdict};
 use records::Record;
 
 // The number of what is not findings.
+// Kept: C is handed it.
 const NOT_FINDINGS: u64 = 253;
 
 // A seal read: its length, or the first refusal.
@@ -179,6 +180,7 @@ pub extern "C" fn ennavizhil_signature_places(
 }
 
 // The verdict on a seal, by 19 numbers that are the findings and the two digests.
+#[tactic(auto, unfolding(crate::specs::Judged::asked_verdict, terms::specs::Answer::pick))]
 #[unsafe(no_mangle)]
 pub extern "C" fn ennavizhil_seal_verdict(
     record: &[u8],
@@ -195,6 +197,7 @@ pub extern "C" fn ennavizhil_seal_verdict(
 }
 
 // The verdict on a signature record.
+#[tactic(auto, unfolding(crate::specs::Judged::asked_verdict, terms::specs::Answer::pick))]
 #[unsafe(no_mangle)]
 pub extern "C" fn ennavizhil_signature_verdict(
     record: &[u8],

@@ -5,11 +5,12 @@ ghost use Rattle.std.specs.Prelude.{◌≡◌};
 ghost use Rattle.primitives.specs.Primitive.{leaf_of};
 ghost use Rattle.entries.specs.Entry.{leaf_walk};
 
-use heads::Seen;
+use heads::Span;
 use primitives::Primitive;
-use terms::Field;
+use terms::{Field, Refusal};
 
 // A primitive item under its name, and its index in a list: where its value lies, or its refusal.
+// Kept: a struct of the record and the lent table would be taken apart and built anew at each call.
 pub fn leaf(
     s: &[u8],
     primitive: Primitive,
@@ -18,14 +19,10 @@ pub fn leaf(
     at: usize,
     end: usize,
     places: &mut [usize],
-) -> Seen
+) -> Result<Span, Refusal>
     ensures { (result, places.new) ≡ leaf_walk (leaf_of primitive) name index s.now at end places.old }
 {
-    let h = leaves::leaf(s, primitive, at, end);
-    let Seen::Item { start: a, end: z } = h else {
-        blames::blame(places, name);
-        return h;
-    };
-    places::note(places, name, index, a, z, 0);
-    Seen::Item { start: a, end: z }
+    let value = blames::blaming(leaves::leaf(s, primitive, at, end), name, places)?;
+    places::note(places, name, index, value.start, value.end, 0);
+    Ok(value)
 }

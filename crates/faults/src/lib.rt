@@ -13,19 +13,19 @@ ghost use Rattle.layouts.specs.declared.Whose.TheVariants.{Record as TheRecord};
 ghost use Rattle.records.specs.Handing.{layout_of, record_answer};
 ghost use Rattle.faults.specs.Laws.{room_for};
 
-use heads::Step;
-use layouts::{Outcome, Whose};
+use layouts::Whose;
 use places::{TABLE_SIZE, WANTED_AT};
 use records::Record;
-use terms::{Field, LARGEST_RECORD, NAMES};
+use terms::{Field, LARGEST_RECORD, NAMES, Refusal};
 
 // A table of places, and behind it a number more.
 const ROOM: usize = TABLE_SIZE + 1;
 
 // What reading a record comes to; whose fault its refusal is; and the table of the places that were passed, all of them where it was accepted.
+// Kept: with a refusal there is a table too.
 #[derive(Clone, Copy)]
 pub struct Fault {
-    pub outcome: Outcome,
+    pub outcome: Result<usize, Refusal>,
     pub whose: Whose,
     pub places: [usize; TABLE_SIZE],
 }
@@ -45,11 +45,7 @@ fn table(places: &[usize]) -> [usize; TABLE_SIZE]
     ensures { result ≡ take table_size places.now }
 {
     let mut alone = [0usize; TABLE_SIZE];
-    let mut i = 0;
-    while i < TABLE_SIZE {
-        alone[i] = places[i];
-        i += 1;
-    }
+    alone.copy_from_slice(&places[..TABLE_SIZE]);
     alone
 }
 
@@ -80,21 +76,17 @@ pub fn read(s: &[u8], x: Record, index: usize) -> Fault
     ensures placed { Placed index (record_passed largest_record (layout_of x) s.now) result.places }
 {
     let mut places = room(index);
-    let r = readers::whole(s, structures::row_of(x), LARGEST_RECORD, &mut places);
-    match r {
-        Step::Next(n) => {
-            return Fault {
-                outcome: Outcome::Length(n),
-                whose: Whose::Nothing,
-                places: table(&places),
-            };
-        }
-        Step::Refused(number, place) => {
-            return Fault {
-                outcome: Outcome::Refused(number, place),
-                whose: whose(places[TABLE_SIZE]),
-                places: table(&places),
-            };
-        }
+    let outcome = readers::whole(s, structures::row_of(x), LARGEST_RECORD, &mut places);
+    if outcome.is_err() {
+        return Fault {
+            outcome,
+            whose: whose(places[TABLE_SIZE]),
+            places: table(&places),
+        };
+    }
+    Fault {
+        outcome,
+        whose: Whose::Nothing,
+        places: table(&places),
     }
 }

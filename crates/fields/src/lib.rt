@@ -8,21 +8,16 @@ ghost use Rattle.records.specs.Handing.{layout_of, seek, tell, told_place, hande
 ghost use Rattle.records.specs.Part.{PartOf};
 
 pub use cuts::{cut, cut_under, under};
-use layouts::Outcome;
 use records::{Part, Record};
-use terms::{Field, LARGEST_RECORD};
+use terms::{Field, LARGEST_RECORD, Refusal};
 
 // Where a field of a record lies, by its name and its index in a list; or why there is none.
-pub fn find(s: &[u8], x: Record, f: Field, index: usize) -> Part
+pub fn find(s: &[u8], x: Record, f: Field, index: usize) -> Result<Option<Part>, Refusal>
     ensures { told_part result ≡ tell told_place (seek (layout_of x) (is_field f index) s.now) }
 {
     let reading = readers::read(s, structures::row_of(x), LARGEST_RECORD, index);
-    let outcome = reading.outcome;
-    let places = reading.places;
-    match outcome {
-        Outcome::Length(_) => under(&places, f),
-        Outcome::Refused(number, place) => Part::Refused(number, place),
-    }
+    reading.outcome?;
+    Ok(under(&reading.places, f))
 }
 
 // The part of the record that a field is; where there is none, no bytes, at the record's start.

@@ -9,40 +9,32 @@ ghost use Rattle.pieces.specs.Piece.{wrote};
 use pieces::Moved;
 use primitives::Primitive;
 use sides::Side;
+use sources::Source;
 
 // A flag.
 fn flag_out(dst: &mut [u8], pos: usize, to: Side, v: bool) -> usize
     ensures { (result, dst.new) ≡ puts (flag_out to v) dst.old pos }
 {
-    match to {
-        Side::Record => {
-            if v {
-                return pieces::value(dst, pos, to, Primitive::Critical, b"\xff");
-            }
-            pos
-        }
-        Side::Sheet => {
-            if v {
-                return pieces::value(dst, pos, to, Primitive::Critical, b"\x01");
-            }
-            pieces::value(dst, pos, to, Primitive::Critical, b"\x00")
-        }
+    match (to, v) {
+        (Side::Record, true) => pieces::value(dst, pos, to, Primitive::Critical, b"\xff"),
+        (Side::Record, false) => pos,
+        (Side::Sheet, true) => pieces::value(dst, pos, to, Primitive::Critical, b"\x01"),
+        (Side::Sheet, false) => pieces::value(dst, pos, to, Primitive::Critical, b"\x00"),
     }
 }
 
 // A flag from a source.
 pub fn flag(
-    s: &[u8],
-    from: Side,
+    source: Source<'_>,
     to: Side,
     at: usize,
     end: usize,
     dst: &mut [u8],
     pos: usize,
 ) -> Moved
-    ensures { (result.next, result.to, dst.new) ≡ wrote (move_flag from to s.now at end) dst.old pos }
+    ensures { (result.next, result.to, dst.new) ≡ wrote (move_flag source.entry.side to source.entry.bytes.now at end) dst.old pos }
 {
-    let v = spans::flag(s, from, at, end);
+    let v = spans::flag(source, at, end);
     let o = flag_out(dst, pos, to, v.there);
     Moved {
         next: v.start,

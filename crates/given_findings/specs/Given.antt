@@ -1,8 +1,6 @@
 -- What the numbers of a row say as findings (03, 42). Assumes nothing.
-use Rattle.std.specs.Prelude.{ℕ, ◌+◌, Bool, List, eqb}
+use Rattle.std.specs.Prelude.{ℕ, ◌+◌, Bool, List, eqb, Option, Some, None}
 use Rattle.terms.specs.Answer.{pick}
-use Rattle.verdicts.specs.declared.Revocation.{Revocation}
-use Rattle.verdicts.specs.declared.Revocation.TheVariants.{Never, At}
 use Rattle.verdicts.specs.declared.CertificateFacts.{CertificateFacts}
 use Rattle.verdicts.specs.declared.Stamping.{Stamping}
 use Rattle.verdicts.specs.declared.Stamping.TheVariants.{Unchecked, Bad, Good}
@@ -13,8 +11,8 @@ unfoldable pub says : List ℕ → ℕ → Bool
 says xs k = eqb (at xs k) 1
 
 -- whether there is one, and its time
-unfoldable pub revocation_at : List ℕ → ℕ → Revocation
-revocation_at xs k = pick (says xs k) (At (at xs (k + 1))) Never
+unfoldable pub revocation_at : List ℕ → ℕ → Option ℕ
+revocation_at xs k = pick (says xs k) (Some (at xs (k + 1))) None
 
 -- chain, usage, first, last, revoked, its time
 unfoldable pub certificate_at : List ℕ → ℕ → CertificateFacts

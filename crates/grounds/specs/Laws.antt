@@ -1,16 +1,17 @@
 -- A record's grounds, from its table of places. Assumes nothing.
-use Rattle.std.specs.Prelude.{◌≡◌, Bool, true, false, length}
+use Rattle.std.specs.Prelude.{◌≡◌, false, length, Ok, Err, None}
 use Rattle.std.proofs.Math.Path.{refl, ap, subst}
 use Rattle.std.proofs.Common.{sym, ◌∙◌, arith}
 use Prim.Native.Nat.{ℕ}
 use Rattle.std.proofs.Math.Option.{Option, none, some}
 use mathlib.Core.List.{List}
-use Rattle.std.specs.Borrow.{Bor}
 use Rattle.terms.specs.declared.Field.{Field}
 use Rattle.terms.specs.declared.Field.TheVariants.{Start, End, SigningTime, ListKind, SignerCertificate, OriginalDigest, Stamp}
 use Rattle.terms.specs.Numbers.{largest_record}
-use Rattle.terms.specs.Answer.{Res, good, fault, pick, same, answered}
-use Rattle.terms.specs.Laws.Answer.{never, clash, good_inj}
+use Rattle.terms.specs.Answer.{Res, good, fault, pick, same, Answer}
+use Rattle.terms.specs.Laws.Told.{told_refusal, fault_one}
+use Rattle.terms.specs.Laws.Answer.{clash, good_inj}
+use Rattle.terms.specs.declared.Refusal.{Refusal}
 use Rattle.contents.specs.Integer.{says_kind1}
 use Rattle.contents.specs.Time.{moment_of}
 use Rattle.layouts.specs.Layout.{Members, Values, All}
@@ -19,52 +20,20 @@ use Rattle.layouts.proofs.Laws.Fields.{Sought, fields_stand, stands_within, stan
 use Rattle.layouts.specs.Places.{Placed}
 use Rattle.layouts.specs.Whole.{accept, told_outcome}
 use Rattle.layouts.proofs.Laws.Whole.{accept_back}
-use Rattle.layouts.specs.declared.Outcome.{Outcome}
-use Rattle.layouts.specs.declared.Outcome.TheVariants.{Length, Refused as Unread}
 use Rattle.records.specs.declared.Record.{Record}
-use Rattle.records.specs.declared.Part.{Part}
-use Rattle.records.specs.Part.{PartOf}
 use Rattle.records.specs.Handing.{layout_of, told_record, read_record, fields_of, is_listed}
 use Rattle.records.specs.Laws.Handing.{fields_in_lem}
 use Rattle.verdicts.specs.declared.Findings.{Findings}
 use Rattle.verdicts.specs.declared.CertificateFacts.{CertificateFacts}
-use Rattle.verdicts.specs.declared.Revocation.TheVariants.{Never}
 use Rattle.verdicts.specs.declared.Stamping.TheVariants.{Unchecked}
 use Rattle.verdicts.specs.Verdict.{Facts, facts_of, the, time_of, sought, signer_listed, stamped}
-use Rattle.fields.specs.Handed.{part_of, part_under, span_of, within}
+use Rattle.fields.specs.Handed.{part_of, part_under}
 use Rattle.fields.specs.Laws.{within-yes, numbers_part, was_read, placed_in}
-use Rattle.moments.specs.declared.Moment.{Moment as CodeMoment}
-use Rattle.moments.specs.Moment.{moment_in}
 use Rattle.moments.specs.Laws.{one_moment}
-use Rattle.matching.specs.Match.{bytes_at, match_under}
+use Rattle.matching.specs.Match.{bytes_at}
 use Rattle.matching.specs.Laws.Match.{match_is}
 use Rattle.grounds.specs.declared.Grounds.{Grounds}
-use Rattle.grounds.specs.declared.Ground.{Ground}
-use Rattle.grounds.specs.declared.Ground.TheVariants.{Read, Refused}
 use Rattle.grounds.specs.Ground.{Rests, Leads, GroundOf, sought_under, is_part}
-
--- ---- the steps of reading them
-
-pub moment_told : (s z : Bor (List ℕ)) (y : Part) (m : CodeMoment) → PartOf s z (within (length s.now) (span_of y)) → moment_in m ≡ moment_of z.now → moment_in m ≡ moment_of (bytes_at s.now y)
-moment_told s z y m h e = e ∙ ap moment_of h.holds
-
-pub alike_told : (s z : Bor (List ℕ)) (y : Part) (g : List ℕ) (t : Bool) → PartOf s z (within (length s.now) (span_of y)) → t ≡ same g z.now → t ≡ same g (bytes_at s.now y)
-alike_told s z y g t h e = e ∙ ap (same g) h.holds
-
-pub stamp_told : (p y : Part) (t : Bool) → p ≡ y → t ≡ is_part p → t ≡ is_part y
-stamp_told p y t h e = e ∙ ap is_part h
-
-module _ (s : Bor (List ℕ)) (d g : List ℕ) (k : Bool) (h : k ≡ says_kind1 (bytes_at s.now (part_under ListKind d))) (p : Part) (t : Bool) (e : t ≡ is_part p) where
-  abbrev Listed : Type 0
-  Listed = t ≡ is_part (match_under (sought_under g s.now d) s.now d)
-
-  pub listed-certificate : (z : Bor (List ℕ)) → k ≡ true → PartOf s z (within (length s.now) (span_of (part_under SignerCertificate d))) → p ≡ match_under z.now s.now d → Listed
-  unfolding sought_under pick
-  listed-certificate z i c m = rw (← h, i) (e ∙ ap is_part (m ∙ ap (λ (y : List ℕ). match_under y s.now d) c.holds))
-
-  pub listed-digest : k ≡ false → p ≡ match_under g s.now d → Listed
-  unfolding sought_under pick
-  listed-digest i m = rw (← h, i) (e ∙ ap is_part m)
 
 -- ---- of an accepted record
 
@@ -86,16 +55,12 @@ module _ (w : List ℕ) (xs : List Entry) (st : All (Stands w) xs) (d : List ℕ
   there-under : (f : Field) → is_part (part_under f d) ≡ is_there (first (is_field f 0) xs)
   there-under f = ap is_part (numbers_part f d (first (is_field f 0) xs) (p.1 f)) ∙ part-there (first (is_field f 0) xs)
 
-module _ (x : Record) (w original signer : List ℕ) (m : Members) (i : m ≡ layout_of x) (o : Outcome) (t : told_outcome o ≡ told_record largest_record m w) where
-  pub ground_refused : (n p : ℕ) → o ≡ Unread n p → GroundOf (layout_of x) w original signer (Refused n p)
-  ground_refused n p h = go (read_record (layout_of x) w) refl (rw (i, h) at t)
-    where
-      go : (y : Res (Values (layout_of x))) → read_record (layout_of x) w ≡ y → told_outcome (Unread n p) ≡ answered (λ v. length w) y → read_record (layout_of x) w ≡ fault n p
-      go (good v) e g = never (cc)
-      go (fault n' p') e g = let a : n' ≡ n = cc in let b : p' ≡ p = cc in rw (e, a, b)
+module _ (x : Record) (w original signer : List ℕ) (m : Members) (i : m ≡ layout_of x) (o : Answer ℕ) (t : told_outcome o ≡ told_record largest_record m w) where
+  pub ground_refused : (r : Refusal) → o ≡ Err r → GroundOf (layout_of x) w original signer (Err r)
+  ground_refused r h = told_refusal (λ v. length w) r (read_record (layout_of x) w) (rw (i, h) at t)
 
-  module _ (l : ℕ) (h : o ≡ Length l) (d : List ℕ) (pl : Placed 0 (fields_of m (accept largest_record m w)) d) (g : Grounds) (e : Leads w d original signer g) where
-    pub ground_read : GroundOf (layout_of x) w original signer (Read g)
+  module _ (l : ℕ) (h : o ≡ Ok l) (d : List ℕ) (pl : Placed 0 (fields_of m (accept largest_record m w)) d) (g : Grounds) (e : Leads w d original signer g) where
+    pub ground_read : GroundOf (layout_of x) w original signer (Ok g)
     unfolding time_of the stamped signer_listed sought sought_under
     ground_read =
         let (start, stop, signed, listed, alike, stamp) = e in
@@ -135,14 +100,14 @@ rests_one x g h a b =
 
 -- whatever was found
 abbrev no_facts : CertificateFacts
-no_facts = record { chain = false; usage = false; dates = record { first = 0; last = 0 }; revocation = Never }
+no_facts = record { chain = false; usage = false; dates = record { first = 0; last = 0 }; revocation = None }
 
 abbrev nothing_found : Findings
-nothing_found = record { signature = false; sealing = false; now = 0; maker = no_facts; signer = no_facts; seal = record { withdrawn = Never }; stamp = record { state = Unchecked } }
+nothing_found = record { signature = false; sealing = false; now = 0; maker = no_facts; signer = no_facts; seal = record { withdrawn = None }; stamp = record { state = Unchecked } }
 
-pub one_ground : (r : Members) (w original signer : List ℕ) (x y : Ground) → GroundOf r w original signer x → GroundOf r w original signer y → x ≡ y
-one_ground r w original signer (Read g) (Read h) (v, e, a) (v', e', b) =
-    let i : v' ≡ v = good_inj (sym e' ∙ e) in ap Read (rests_one (facts_of r v nothing_found original signer) g h (a nothing_found) (subst (λ (z : Values r). Rests (facts_of r z nothing_found original signer) h) i (b nothing_found)))
-one_ground r w original signer (Read g) (Refused n p) (v, e, a) e' = clash (sym e' ∙ e)
-one_ground r w original signer (Refused n p) (Read h) e (v', e', b) = clash (sym e ∙ e')
-one_ground r w original signer (Refused n p) (Refused n' p') e e' = cc
+pub one_ground : (r : Members) (w original signer : List ℕ) (x y : Answer Grounds) → GroundOf r w original signer x → GroundOf r w original signer y → x ≡ y
+one_ground r w original signer (Ok g) (Ok h) (v, e, a) (v', e', b) =
+    let i : v' ≡ v = good_inj (sym e' ∙ e) in ap Ok (rests_one (facts_of r v nothing_found original signer) g h (a nothing_found) (subst (λ (z : Values r). Rests (facts_of r z nothing_found original signer) h) i (b nothing_found)))
+one_ground r w original signer (Ok g) (Err q) (v, e, a) e' = clash (sym e' ∙ e)
+one_ground r w original signer (Err q) (Ok h) e (v', e', b) = clash (sym e ∙ e')
+one_ground r w original signer (Err q) (Err q') e e' = ap Err (fault_one q q' (sym e ∙ e'))

@@ -11,10 +11,9 @@ ghost use Rattle.moments.specs.Moment.{moment_in};
 ghost use Rattle.matching.specs.Match.{bytes_at, match_under};
 ghost use Rattle.grounds.specs.Ground.{Leads, GroundOf, sought_under, is_part};
 
-use layouts::Outcome;
 use moments::Moment;
-use records::{Part, Record};
-use terms::{Field, LARGEST_RECORD};
+use records::Record;
+use terms::{Field, LARGEST_RECORD, Refusal};
 
 // The seal's period, the time of signing, whether the signer is in the list, whether the original's digest is the given one, and whether there is a stamp.
 #[derive(Clone, Copy)]
@@ -27,13 +26,6 @@ pub struct Grounds {
     pub stamped: bool,
 }
 
-// A record that was read for a verdict, or its refusal.
-#[derive(Clone, Copy)]
-pub enum Ground {
-    Read(Grounds),
-    Refused(u8, usize),
-}
-
 // The moment that a field says.
 fn moment_under(s: &[u8], places: &[usize], f: Field) -> Moment
     ensures { moment_in result ≡ moment_of (bytes_at s.now (part_under f places.now)) }
@@ -41,29 +33,16 @@ fn moment_under(s: &[u8], places: &[usize], f: Field) -> Moment
     moments::of_record(fields::cut_under(s, places, f))
 }
 
-// Whether an answer names a part.
-fn is_part(p: Part) -> bool
-    ensures { result ≡ is_part p }
-{
-    match p {
-        Part::There {
-            start: _,
-            length: _,
-        } => true,
-        Part::Absent => false,
-        Part::Refused(_, _) => false,
-    }
-}
-
 // Whether the signer is in the list: its certificate where the kind is 1, else its digest.
+#[tactic(auto, unfolding(crate::specs::Ground::sought_under, terms::specs::Answer::pick))]
 fn is_listed(s: &[u8], places: &[usize], signer: &[u8]) -> bool
     ensures { result ≡ is_part (match_under (sought_under signer.now s.now places.now) s.now places.now) }
 {
     if matching::is_kind_1(s, places) {
         let certificate = fields::cut_under(s, places, Field::SignerCertificate);
-        return is_part(matching::find_under(s, places, certificate));
+        return matching::find_under(s, places, certificate).is_some();
     }
-    is_part(matching::find_under(s, places, signer))
+    matching::find_under(s, places, signer).is_some()
 }
 
 // Whether the original's digest is the given one.
@@ -80,38 +59,28 @@ fn is_alike(s: &[u8], places: &[usize], original: &[u8]) -> bool
 fn is_stamped(places: &[usize]) -> bool
     ensures { result ≡ is_part (part_under Stamp places.now) }
 {
-    is_part(fields::under(places, Field::Stamp))
+    fields::under(places, Field::Stamp).is_some()
 }
 
 // The grounds that a table of places leads to.
 fn grounds_in(s: &[u8], places: &[usize], original: &[u8], signer: &[u8]) -> Grounds
     ensures { Leads s.now places.now original.now signer.now result }
 {
-    let start = moment_under(s, places, Field::Start);
-    let end = moment_under(s, places, Field::End);
-    let signing = moment_under(s, places, Field::SigningTime);
-    let listed = is_listed(s, places, signer);
-    let alike = is_alike(s, places, original);
-    let stamped = is_stamped(places);
     Grounds {
-        start,
-        end,
-        signing,
-        listed,
-        alike,
-        stamped,
+        start: moment_under(s, places, Field::Start),
+        end: moment_under(s, places, Field::End),
+        signing: moment_under(s, places, Field::SigningTime),
+        listed: is_listed(s, places, signer),
+        alike: is_alike(s, places, original),
+        stamped: is_stamped(places),
     }
 }
 
 // A record's grounds, with the given digests of the original and of the signer.
-pub fn read(s: &[u8], x: Record, original: &[u8], signer: &[u8]) -> Ground
+pub fn read(s: &[u8], x: Record, original: &[u8], signer: &[u8]) -> Result<Grounds, Refusal>
     ensures { GroundOf (layout_of x) s.now original.now signer.now result }
 {
     let reading = readers::read(s, structures::row_of(x), LARGEST_RECORD, 0);
-    let outcome = reading.outcome;
-    let places = reading.places;
-    match outcome {
-        Outcome::Length(_) => Ground::Read(grounds_in(s, &places, original, signer)),
-        Outcome::Refused(number, place) => Ground::Refused(number, place),
-    }
+    reading.outcome?;
+    Ok(grounds_in(s, &reading.places, original, signer))
 }

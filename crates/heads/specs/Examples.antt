@@ -2,7 +2,8 @@
 use Rattle.std.specs.Prelude.{◌≡◌, refl, List, [], ◌∷◌, ℕ}
 use Rattle.terms.specs.Answer.{Res, fault, pick, bind, need, have, every}
 use Rattle.terms.specs.Digits.{digits, number_from, leading}
-use Rattle.terms.specs.Numbers.{bad_length, past_end, too_large, largest_record}
+use Rattle.terms.specs.Numbers.{largest_record}
+use Rattle.terms.specs.declared.Reason.TheVariants.{BadLength, PastEnd, TooLarge}
 use Rattle.heads.specs.Head.{forms, Cut, spell, octets, unspell, any_size, is_shortest, size, opening, cut, outermost}
 
 -- what is opened to evaluate
@@ -14,14 +15,14 @@ evaluate = tt
 abbrev declared : List ℕ → Res Cut
 declared length = outermost forms largest_record 0x30 (0x30 ∷ length) 0
 
-spelled_first : declared (0x82 ∷ 0x00 ∷ 0xFF ∷ []) ≡ fault bad_length 0
+spelled_first : declared (0x82 ∷ 0x00 ∷ 0xFF ∷ []) ≡ fault BadLength 0
 unfolding evaluate
 spelled_first = refl
 
-too_large-before-past_end : declared (0x82 ∷ 0xFF ∷ 0xFC ∷ []) ≡ fault too_large 0
+too_large-before-past_end : declared (0x82 ∷ 0xFF ∷ 0xFC ∷ []) ≡ fault TooLarge 0
 unfolding evaluate
 too_large-before-past_end = refl
 
-largest_is_past_end : declared (0x82 ∷ 0xFF ∷ 0xFB ∷ []) ≡ fault past_end 0
+largest_is_past_end : declared (0x82 ∷ 0xFF ∷ 0xFB ∷ []) ≡ fault PastEnd 0
 unfolding evaluate
 largest_is_past_end = refl

@@ -11,21 +11,8 @@ pub fn hidden_of(p: Primitive) -> usize
     ensures { (result ≡ length (leaf_of p).front) × (result ≤ 1) }
 {
     match p {
-        Primitive::Octets => 0,
-        Primitive::AnyOctets => 0,
         Primitive::Bits => 1,
-        Primitive::Ia5 => 0,
-        Primitive::AnyIa5 => 0,
-        Primitive::AnyPrintable => 0,
-        Primitive::AnyUtf8 => 0,
-        Primitive::Identifier => 0,
-        Primitive::Time => 0,
-        Primitive::Integer => 0,
-        Primitive::ListKind => 0,
-        Primitive::Millimetres => 0,
-        Primitive::Critical => 0,
-        Primitive::HeaderName => 0,
-        Primitive::Version => 0,
+        _ => 0,
     }
 }
 
@@ -33,21 +20,8 @@ pub fn hidden_of(p: Primitive) -> usize
 pub fn is_number(p: Primitive) -> bool
     ensures { result ≡ is_number (leaf_of p).holds }
 {
-    match p {
-        Primitive::Octets => false,
-        Primitive::AnyOctets => false,
-        Primitive::Bits => false,
-        Primitive::Ia5 => false,
-        Primitive::AnyIa5 => false,
-        Primitive::AnyPrintable => false,
-        Primitive::AnyUtf8 => false,
-        Primitive::Identifier => false,
-        Primitive::Time => false,
-        Primitive::Integer => true,
-        Primitive::ListKind => true,
-        Primitive::Millimetres => true,
-        Primitive::Critical => false,
-        Primitive::HeaderName => false,
-        Primitive::Version => false,
-    }
+    matches!(
+        p,
+        Primitive::Integer | Primitive::ListKind | Primitive::Millimetres
+    )
 }

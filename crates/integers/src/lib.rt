@@ -8,9 +8,8 @@ ghost use Rattle.contents.specs.Rules.{integer_rule};
 ghost use Rattle.contents.specs.Scan.{checked_at};
 ghost use Rattle.integers.specs.Allowed.{allowed_of};
 
-use contents::Checked;
-use numbers::Number;
-use terms::{BAD_INTEGER, NOT_ALLOWED};
+use terms::Reason::{BadInteger, NotAllowed};
+use terms::Refusal;
 
 // Which numbers are allowed.
 #[derive(Clone, Copy)]
@@ -24,10 +23,7 @@ pub enum Allowed {
 fn is_within(v: i64, most: i64) -> bool
     ensures { result ≡ from_one most v }
 {
-    if v < 1 {
-        return false;
-    }
-    v <= most
+    1 <= v && v <= most
 }
 
 // Whether a number is allowed.
@@ -42,28 +38,30 @@ fn is_allowed(allowed: Allowed, v: i64) -> bool
 }
 
 // An INTEGER by its rule: 6, then 7 where its number is not allowed.
-pub fn integer(s: &[u8], at: usize, a: usize, z: usize, allowed: Allowed) -> Checked
+pub fn integer(s: &[u8], at: usize, a: usize, z: usize, allowed: Allowed) -> Result<(), Refusal>
     ensures { result ≡ checked_at (integer_rule (allowed_of allowed)) s.now at a z }
 {
-    let Number::Value(v) = numbers::read(s, a, z) else {
-        return Checked::Wrong(BAD_INTEGER, at);
+    let Some(v) = numbers::read(s, a, z) else {
+        return Err(BadInteger.at(at));
     };
     if is_allowed(allowed, v) {
-        return Checked::Fine;
+        Ok(())
+    } else {
+        Err(NotAllowed.at(at))
     }
-    Checked::Wrong(NOT_ALLOWED, at)
 }
 
 // The version by its rule: 6, then 7 where it is not 4.
-pub fn version(s: &[u8], at: usize, a: usize, z: usize) -> Checked
+pub fn version(s: &[u8], at: usize, a: usize, z: usize) -> Result<(), Refusal>
     ensures { result ≡ checked_at (known_rule versionItem) s.now at a z }
 {
-    let Number::Value(_) = numbers::read(s, a, z) else {
-        return Checked::Wrong(BAD_INTEGER, at);
+    let Some(_) = numbers::read(s, a, z) else {
+        return Err(BadInteger.at(at));
     };
     let c = windows::window(s, a, z);
     if windows::is_same(c, b"\x04") {
-        return Checked::Fine;
+        Ok(())
+    } else {
+        Err(NotAllowed.at(at))
     }
-    Checked::Wrong(NOT_ALLOWED, at)
 }

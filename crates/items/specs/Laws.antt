@@ -1,5 +1,5 @@
 -- Heads by positions: what each step of reading one comes to, with premises as code has them. Assumes nothing.
-use Rattle.std.specs.Prelude.{◌≡◌, ℕ, ◌+◌, ◌-◌, ◌*◌, ◌≤◌, ◌<◌, Bool, true, false, not, T, leb, ltb, eqb}
+use Rattle.std.specs.Prelude.{◌≡◌, ℕ, ◌+◌, ◌-◌, ◌*◌, ◌≤◌, ◌<◌, Bool, true, false, T, leb, ltb, eqb, Option as Maybe, Some, None, Ok, Err, ok_or}
 use Rattle.std.proofs.Math.Path.{refl, sym, ap, ap₂}
 use Rattle.std.proofs.Common.{◌∙◌, length-take-le, leb→le, lit≤, Fits}
 use native.Mathlib.Omega.{arith}
@@ -9,33 +9,29 @@ use Rattle.std.proofs.Math.ListN.{length, get_or}
 use Rattle.std.proofs.Math.Seq.{slice, length-slice}
 use Rattle.std.proofs.Math.Dec.{ltb→lt, nltb→le, nleb→lt}
 use Rattle.std.specs.Int.{w64}
-use borrow.Author.Tests.{lt-ltb, le-ltb, le-leb, lt-leb, eq-eqb, ne_eqb, not-true, not-false}
-use Rattle.terms.specs.Numbers.{item_missing, other_tag, bad_length, past_end, too_large}
-use Rattle.terms.specs.Answer.{Res, good, fault, pick, bind, need, have, every}
+use borrow.Author.Tests.{lt-ltb, le-ltb, le-leb, lt-leb, eq-eqb, ne_eqb}
+use Rattle.terms.specs.declared.Reason.{Reason}
+use Rattle.terms.specs.declared.Refusal.{Refusal}
+use Rattle.terms.specs.declared.Reason.TheVariants.{ItemMissing, OtherTag, BadLength, PastEnd, TooLarge}
+use Rattle.terms.specs.Answer.{Res, good, fault, pick, bind, need, have, every, Answer, refusal_at, refused}
 use Rattle.terms.specs.Digits.{digits, number_from, number, is_byte, leading}
 use Rattle.terms.specs.Laws.Digits.{leading-there, digits_number, number_small}
-use Rattle.terms.specs.Laws.Answer.{never, test, pick_yes, pick_no, pick_lt, pick_ge, bind_eq}
+use Rattle.terms.specs.Laws.Answer.{never, same_answer, same_refusal, test, pick_yes, pick_no, pick_lt, pick_ge, bind_eq}
 use Rattle.heads.specs.Head as Head
 use Rattle.heads.specs.Head.{forms, spell, octets, Size, sized, unspell, any_size, is_shortest, size, opening, Cut, before, cut, head, outermost}
 use Rattle.heads.proofs.Laws.Head.{unspelled, octets_below, opening_rest}
-use Rattle.heads.specs.Scan.{seen, head_at, outermost_at}
+use Rattle.heads.specs.Scan.{seen, head_at, outermost_at, span}
+use Rattle.heads.specs.declared.Span.{Span}
 use Rattle.windows.specs.Window.{clamp}
 use Rattle.windows.specs.Laws.Window.{slice-clamp, clamp_in, byte_at, nothing_at}
-use Rattle.items.specs.Scan.{form_of, length_of, length_at, opened, opening_at}
-use Rattle.heads.specs.declared.Seen.{Seen}
-use Rattle.heads.specs.declared.Seen.TheVariants.{Item, Refused}
-use Rattle.items.specs.declared.Form.{Form}
-use Rattle.items.specs.declared.Form.TheVariants.{Short, OneByte, TwoBytes}
-use Rattle.items.specs.declared.Length.{Length}
-use Rattle.items.specs.declared.Length.TheVariants.{Spelled, Bad}
+use Rattle.items.specs.Scan.{spelled, length_of, length_at, opened, opening_at}
 use Rattle.items.specs.declared.Opening.{Opening}
-use Rattle.items.specs.declared.Opening.TheVariants.{Opened, Refused as Unopened}
 
 -- ---- lengths, by their first byte
 
 -- a form of the table has its bytes read after its first byte
 abbrev Reads : ℕ → ℕ → Type 0
-Reads o n = (p : ℕ) (w : List ℕ) → any_size forms p (o ∷ w) ≡ (bind (have (leading n w) bad_length p) λ z. good (sized (2 + n) z.0 z.1))
+Reads o n = (p : ℕ) (w : List ℕ) → any_size forms p (o ∷ w) ≡ (bind (have (leading n w) BadLength p) λ z. good (sized (2 + n) z.0 z.1))
 
 pub one_reads : Reads 0x81 1
 unfolding any_size unspell pick
@@ -74,54 +70,75 @@ module _ (n : ℕ) where
       (λ a. let k : 256 ≤ n = nltb→le n 256 a in rw (octets_two k h, le-leb 256 n k))
 
 module _ (s : List ℕ) (p e : ℕ) where
-  pub length_missing : e - p < 2 → Bad ≡ length_at s p e
-  unfolding length_at any_size
+  pub length_missing : e - p < 2 → None ≡ length_at s p e
+  unfolding length_at size any_size bind
   length_missing h = rw (nothing_at s (p + 1) e (omega arith))
 
   first_byte : 2 ≤ e - p → e ≤ length s → slice (p + 1) e s ≡ get_or s (p + 1) 0 ∷ slice (p + 2) e s
   first_byte h k = let f : p + 1 + 1 ≡ p + 2 = omega arith in rw f at (byte_at s (p + 1) e (omega arith) k)
 
-  pub length_short : (n : ℕ) → 2 ≤ e - p → e ≤ length s → get_or s (p + 1) 0 < 128 → n ≡ get_or s (p + 1) 0 → Spelled Short 2 n true ≡ length_at s p e
-  unfolding length_at any_size is_shortest pick form_of
+  pub length_short : (n : ℕ) → 2 ≤ e - p → e ≤ length s → get_or s (p + 1) 0 < 128 → n ≡ get_or s (p + 1) 0 → Some (spelled 2 n) ≡ length_at s p e
+  unfolding length_at size any_size is_shortest bind need pick
   length_short n h k l q = rw (first_byte h k, ← q, lt-ltb n 128 (omega arith), octets_below n (omega arith))
 
-  pub length-other : 2 ≤ e - p → e ≤ length s → 128 ≤ get_or s (p + 1) 0 → (get_or s (p + 1) 0 ≡ 0x81 → ⊥) → (get_or s (p + 1) 0 ≡ 0x82 → ⊥) → Bad ≡ length_at s p e
-  unfolding length_at any_size unspell pick
+  pub length-other : 2 ≤ e - p → e ≤ length s → 128 ≤ get_or s (p + 1) 0 → (get_or s (p + 1) 0 ≡ 0x81 → ⊥) → (get_or s (p + 1) 0 ≡ 0x82 → ⊥) → None ≡ length_at s p e
+  unfolding length_at size any_size unspell bind pick
   length-other h k l f g = rw (first_byte h k, le-ltb (get_or s (p + 1) 0) 128 l, ne_eqb (get_or s (p + 1) 0) 0x81 f, ne_eqb (get_or s (p + 1) 0) 0x82 g)
 
 -- once over the form
 module _ (o m : ℕ) (reads : Reads o m) (s : List ℕ) (p e : ℕ) (begun : 2 ≤ e - p) (inside : e ≤ length s) (first : get_or s (p + 1) 0 ≡ o) where
-  pub long_cut : e - p < 2 + m → Bad ≡ length_at s p e
-  unfolding length_at leading bind have pick
+  pub long_cut : e - p < 2 + m → None ≡ length_at s p e
+  unfolding length_at size leading bind have pick
   long_cut h =
       let l : length (slice (p + 2) e s) < m = rw (length-slice (p + 2) e s inside) (omega arith) in
       rw (first_byte s p e begun inside, first, reads, lt-leb m (length (slice (p + 2) e s)) l)
 
-  -- the header's bytes are those that were read
+  -- what is read is taken where it is shortest
   long_read : (n : ℕ) (t : Bool) (ds w : List ℕ) → slice (p + 2) e s ≡ ds ++ w → length ds ≡ m → T (every is_byte ds) → number 256 ds ≡ n → is_shortest forms (sized (2 + m) n w) ≡ t
-      → Spelled (form_of (2 + m)) (2 + m) n t ≡ length_at s p e
-  unfolding length_at bind have
+      → pick t (Some (spelled (2 + m) n)) None ≡ length_at s p e
+  unfolding length_at size bind have need pick
   long_read n t ds w v k b q i =
       let u : 0 < 256 = omega arith in
       let g : leading m (ds ++ w) ≡ some (n, w) = rw (← k, ← q) (rw (digits_number 256 u ds b) at (leading-there (length ds) (number 256 ds) w (number_small 256 u ds b))) in
-      rw (first_byte s p e begun inside, first, v, reads, g, i)
+      rw (first_byte s p e begun inside, first, v, reads, g, i) (go t)
+    where
+      go : (x : Bool) → pick x (Some (spelled (2 + m) n)) None ≡ length_of (need x BadLength p (good (sized (2 + m) n w)))
+      go true = refl
+      go false = refl
 
-module _ (s : List ℕ) (p e : ℕ) where
-  pub one_read : (n : ℕ) → 3 ≤ e - p → e ≤ length s → get_or s (p + 1) 0 ≡ 0x81 → n ≡ get_or s (p + 2) 0 → n < 256 → Spelled OneByte 3 n (leb 128 n) ≡ length_at s p e
-  unfolding every number_from form_of pick
-  one_read n h k f q b =
+module _ (s : List ℕ) (p e n : ℕ) (h : 3 ≤ e - p) (k : e ≤ length s) (f : get_or s (p + 1) 0 ≡ 0x81) (q : n ≡ get_or s (p + 2) 0) (b : n < 256) where
+  one : pick (leb 128 n) (Some (spelled 3 n)) None ≡ length_at s p e
+  unfolding every number_from pick
+  one =
       long_read 0x81 1 one_reads s p e (omega arith) k f n (leb 128 n) (n ∷ []) (slice (p + 2 + 1) e s) (rw q (byte_at s (p + 2) e (omega arith) k)) refl (rw (lt-ltb n 256 b) tt) (omega arith) (one_shortest n _ b)
 
-  pub two_read : (c d : ℕ) → 4 ≤ e - p → e ≤ length s → get_or s (p + 1) 0 ≡ 0x82 → c ≡ get_or s (p + 2) 0 → d ≡ get_or s (p + 3) 0 → c < 256 → d < 256 → Spelled TwoBytes 4 (c * 256 + d) (leb 256 (c * 256 + d)) ≡ length_at s p e
-  unfolding every number_from form_of pick
-  two_read c d h k f q q' b b' =
+  pub one_long : n < 128 → None ≡ length_at s p e
+  unfolding pick
+  one_long l = rw (lt-leb 128 n l) at one
+
+  pub one_read : 128 ≤ n → Some (spelled 3 n) ≡ length_at s p e
+  unfolding pick
+  one_read l = rw (le-leb 128 n l) at one
+
+module _ (s : List ℕ) (p e c d : ℕ) (h : 4 ≤ e - p) (k : e ≤ length s) (f : get_or s (p + 1) 0 ≡ 0x82) (q : c ≡ get_or s (p + 2) 0) (q' : d ≡ get_or s (p + 3) 0) (b : c < 256) (b' : d < 256) where
+  two : pick (leb 256 (c * 256 + d)) (Some (spelled 4 (c * 256 + d))) None ≡ length_at s p e
+  unfolding every number_from pick
+  two =
       let i : p + 2 + 1 ≡ p + 3 = omega arith in
       let v : slice (p + 2) e s ≡ c ∷ d ∷ slice (p + 3 + 1) e s = rw (q, q', byte_at s (p + 2) e (omega arith) k, i) (ap (λ (w : List ℕ). get_or s (p + 2) 0 ∷ w) (byte_at s (p + 3) e (omega arith) k)) in
       long_read 0x82 2 two_reads s p e (omega arith) k f (c * 256 + d) (leb 256 (c * 256 + d)) (c ∷ d ∷ []) (slice (p + 3 + 1) e s) v refl (rw (lt-ltb c 256 b, lt-ltb d 256 b') tt) (omega arith) (two_shortest (c * 256 + d) _ (omega arith))
 
+  pub two_long : c * 256 + d < 256 → None ≡ length_at s p e
+  unfolding pick
+  two_long l = rw (lt-leb 256 (c * 256 + d) l) at two
+
+  pub two_read : 256 ≤ c * 256 + d → Some (spelled 4 (c * 256 + d)) ≡ length_at s p e
+  unfolding pick
+  two_read l = rw (le-leb 256 (c * 256 + d) l) at two
+
 -- ---- a length that is refused is refused so
 
-unspell_fault : (fs : List Head.Form) (p a : ℕ) (w : List ℕ) (n q : ℕ) → unspell fs p a w ≡ fault n q → (n ≡ bad_length) × (q ≡ p)
+unspell_fault : (fs : List Head.Form) (p a : ℕ) (w : List ℕ) (n : Reason) (q : ℕ) → unspell fs p a w ≡ fault n q → (n ≡ BadLength) × (q ≡ p)
 unfolding unspell bind have
 unspell_fault [] p a w n q e = (cc, cc)
 unspell_fault (f ∷ fs) p a w n q e =
@@ -129,11 +146,11 @@ unspell_fault (f ∷ fs) p a w n q e =
     (λ t. go (leading f.bytes w) (sym (pick_yes (eqb a f.octet) _ _ t) ∙ e))
     (λ t. unspell_fault fs p a w n q (sym (pick_no (eqb a f.octet) _ _ t) ∙ e))
   where
-    go : (o : Option (ℕ × List ℕ)) → (bind (have o bad_length p) λ z. good (sized (2 + f.bytes) z.0 z.1)) ≡ fault n q → (n ≡ bad_length) × (q ≡ p)
+    go : (o : Option (ℕ × List ℕ)) → (bind (have o BadLength p) λ z. good (sized (2 + f.bytes) z.0 z.1)) ≡ fault n q → (n ≡ BadLength) × (q ≡ p)
     go none e = (cc, cc)
     go (some z) e = never (cc)
 
-any_fault : (p : ℕ) (w : List ℕ) (n q : ℕ) → any_size forms p w ≡ fault n q → (n ≡ bad_length) × (q ≡ p)
+any_fault : (p : ℕ) (w : List ℕ) (n : Reason) (q : ℕ) → any_size forms p w ≡ fault n q → (n ≡ BadLength) × (q ≡ p)
 unfolding any_size
 any_fault p [] n q e = (cc, cc)
 any_fault p (a ∷ w) n q e =
@@ -141,52 +158,47 @@ any_fault p (a ∷ w) n q e =
     (λ t. let y : good (sized 2 a w) ≡ fault n q = sym (pick_yes (ltb a 128) _ _ t) ∙ e in never (cc))
     (λ t. unspell_fault forms p a w n q (sym (pick_no (ltb a 128) _ _ t) ∙ e))
 
+size_fault : (p : ℕ) (w : List ℕ) (n : Reason) (q : ℕ) → size forms p w ≡ fault n q → (n ≡ BadLength) × (q ≡ p)
+unfolding size bind need
+size_fault p w n q e = go (any_size forms p w) refl e
+  where
+    go : (r : Res Size) → any_size forms p w ≡ r → (bind r λ z. need (is_shortest forms z) BadLength p (good z)) ≡ fault n q → (n ≡ BadLength) × (q ≡ p)
+    go (fault m x) f g = let i : fault m x ≡ fault n q = g in any_fault p w n q (f ∙ i)
+    go (good z) f g = short (is_shortest forms z) g
+      where
+        short : (b : Bool) → need b BadLength p (good z) ≡ fault n q → (n ≡ BadLength) × (q ≡ p)
+        short true k = never (cc)
+        short false k = (cc, cc)
+
 -- ---- tag and length together
 
 module _ (t : ℕ) (s : List ℕ) (p e : ℕ) where
-  tag_at : p < e → e ≤ length s → get_or s p 0 ≡ t → opening_at t s p e ≡ opened (bind (any_size forms p (slice (p + 1) e s)) λ z. need (is_shortest forms z) bad_length p (good z))
-  unfolding opening_at opening size need
+  tag_at : p < e → e ≤ length s → get_or s p 0 ≡ t → opening_at t s p e ≡ opened (size forms p (slice (p + 1) e s))
+  unfolding opening_at opening need
   tag_at h k f = rw (byte_at s p e h k, f, eq-eqb t t refl)
 
-  pub opening_missing : e ≤ p → Unopened item_missing p ≡ opening_at t s p e
+  pub opening_missing : e ≤ p → refused ItemMissing p ≡ opening_at t s p e
   unfolding opening_at opening
   opening_missing h = rw (nothing_at s p e h)
 
-  pub opening-other : p < e → e ≤ length s → (get_or s p 0 ≡ t → ⊥) → Unopened other_tag p ≡ opening_at t s p e
+  pub opening-other : p < e → e ≤ length s → (get_or s p 0 ≡ t → ⊥) → refused OtherTag p ≡ opening_at t s p e
   unfolding opening_at opening need
   opening-other h k f = rw (byte_at s p e h k, ne_eqb (get_or s p 0) t f)
 
-  pub opening-bad : (x : Length) → p < e → e ≤ length s → get_or s p 0 ≡ t → x ≡ length_at s p e → x ≡ Bad → Unopened bad_length p ≡ opening_at t s p e
-  unfolding length_at bind
-  opening-bad x h k f g i = go (any_size forms p (slice (p + 1) e s)) refl (sym g ∙ i) ∙ sym (tag_at h k f)
+  -- of a length that was read, or is refused
+  pub opening_sized : (x : Maybe Opening) → p < e → e ≤ length s → get_or s p 0 ≡ t → x ≡ length_at s p e → ok_or x (refusal_at BadLength p) ≡ opening_at t s p e
+  unfolding length_at
+  opening_sized x h k f g = rw g (go (size forms p (slice (p + 1) e s)) refl) ∙ sym (tag_at h k f)
     where
-      go : (r : Res Size) → any_size forms p (slice (p + 1) e s) ≡ r → length_of r ≡ Bad → Unopened bad_length p ≡ opened (bind r λ z. need (is_shortest forms z) bad_length p (good z))
-      go (good z) q y = never (cc)
-      go (fault n m) q y = let f = any_fault p (slice (p + 1) e s) n m q in rw (f.0, f.1)
-
-  -- a length that is not shortest is refused, one that is is taken
-  module _ (x : Length) (o : Form) (h' n : ℕ) (b : Bool) (h : p < e) (k : e ≤ length s) (f : get_or s p 0 ≡ t) (g : x ≡ length_at s p e) (i : x ≡ Spelled o h' n b) where
-    by_shortest : (y : Opening) → ((z : Size) → z.header ≡ h' → z.content ≡ n → is_shortest forms z ≡ b → y ≡ opened (need (is_shortest forms z) bad_length p (good z))) → y ≡ opening_at t s p e
-    unfolding length_at bind
-    by_shortest y w = go (any_size forms p (slice (p + 1) e s)) (sym g ∙ i) ∙ sym (tag_at h k f)
-      where
-        go : (r : Res Size) → length_of r ≡ Spelled o h' n b → y ≡ opened (bind r λ z. need (is_shortest forms z) bad_length p (good z))
-        go (good z) q = w z (cc) (cc) (cc)
-        go (fault m r) q = never (cc)
-
-    pub opening_long : not b ≡ true → Unopened bad_length p ≡ opening_at t s p e
-    unfolding need
-    opening_long q = by_shortest _ λ z u v w. rw (w ∙ not-true b q)
-
-    pub opening_good : not b ≡ false → Opened h' n ≡ opening_at t s p e
-    unfolding need
-    opening_good q = by_shortest _ λ z u v w. rw (w ∙ not-false b q) (ap₂ Opened (sym u) (sym v))
+      go : (r : Res Size) → size forms p (slice (p + 1) e s) ≡ r → ok_or (length_of r) (refusal_at BadLength p) ≡ opened r
+      go (good z) q = refl
+      go (fault n m) q = let f = size_fault p (slice (p + 1) e s) n m q in rw (f.0, f.1)
 
 -- ---- an item
 
 -- a content of `n` bytes behind a head of `h`, in a window that ends at `e`
-abbrev pub room_at : ℕ → ℕ → ℕ → ℕ → Seen
-room_at p h n e = pick (ltb (e - (p + h)) n) (Refused past_end p) (Item (p + h) (p + h + n))
+abbrev pub room_at : ℕ → ℕ → ℕ → ℕ → Answer Span
+room_at p h n e = pick (ltb (e - (p + h)) n) (refused PastEnd p) (Ok (span (p + h) (p + h + n)))
 
 pick_most : (t : Bool) (x y : List ℕ) (m : ℕ) → length x ≤ m → length y ≤ m → length (pick t x y) ≤ m
 unfolding pick
@@ -206,14 +218,14 @@ record Read (t : ℕ) (s : List ℕ) (p q h n : ℕ) : Type 0 where
   head : h ≡ before n
   short : n < unspelled
 
-opened-read : (t : ℕ) (s : List ℕ) (p q h n : ℕ) → q ≤ length s → opening_at t s p q ≡ Opened h n → Read t s p q h n
+opened-read : (t : ℕ) (s : List ℕ) (p q : ℕ) (o : Opening) → q ≤ length s → opening_at t s p q ≡ Ok o → Read t s p q o.header o.content
 unfolding opening_at
-opened-read t s p q h n k e = go (opening forms t (slice p q s) p) refl e
+opened-read t s p q o k e = go (opening forms t (slice p q s) p) refl e
   where
-    go : (r : Res Size) → opening forms t (slice p q s) p ≡ r → opened r ≡ Opened h n → Read t s p q h n
+    go : (r : Res Size) → opening forms t (slice p q s) p ≡ r → opened r ≡ Ok o → Read t s p q o.header o.content
     go (good z) f g =
-        let a : z.header ≡ h = cc in
-        let b : z.content ≡ n = cc in
+        let a : z.header ≡ o.header = ap (λ x. x.header) (same_answer g) in
+        let b : z.content ≡ o.content = ap (λ x. x.content) (same_answer g) in
         let (u, v, w) = opening_rest t (slice p q s) p z f in
         let l = length-slice p q s k in
         rw (← a, ← b) (record { rest = z.rest; good = f; left = omega arith; head = v; short = w })
@@ -234,40 +246,40 @@ module _ (t : ℕ) (s : List ℕ) (p e q : ℕ) (stop : q ≡ clamp e (length s)
   same_window = rw (stop, slice-clamp p e s)
 
   -- what was not opened is refused, whatever follows
-  pub refused : (k : Size → Res Cut) (x : Opening) (n m : ℕ) → x ≡ opening_at t s p q → x ≡ Unopened n m → Refused n m ≡ seen (bind (opening forms t (slice p e s) p) k)
+  pub not_opened : (k : Size → Res Cut) (x : Answer Opening) (r : Refusal) → x ≡ opening_at t s p q → x ≡ Err r → Err r ≡ seen (bind (opening forms t (slice p e s) p) k)
   unfolding opening_at bind
-  refused k x n m i j = rw same_window (go (opening forms t (slice p q s) p) (sym i ∙ j))
+  not_opened k x r i j = rw same_window (go (opening forms t (slice p q s) p) (sym i ∙ j))
     where
-      go : (r : Res Size) → opened r ≡ Unopened n m → Refused n m ≡ seen (bind r k)
+      go : (y : Res Size) → opened y ≡ Err r → Err r ≡ seen (bind y k)
       go (good z) f = never (cc)
-      go (fault a b) f = let c : a ≡ n = cc in let d : b ≡ m = cc in ap₂ Refused (sym c) (sym d)
+      go (fault a b) f = let i : refusal_at a b ≡ r = same_refusal f in rw (← i)
 
   -- what was opened
-  module _ (x : Opening) (h n : ℕ) (i : x ≡ opening_at t s p q) (j : x ≡ Opened h n) where
-    read : Read t s p q h n
-    read = opened-read t s p q h n (clamp_in q e (length s) stop) (sym i ∙ j)
+  module _ (x : Answer Opening) (o : Opening) (i : x ≡ opening_at t s p q) (j : x ≡ Ok o) where
+    read : Read t s p q o.header o.content
+    read = opened-read t s p q o (clamp_in q e (length s) stop) (sym i ∙ j)
 
-    goes_on_lem : (k : Size → Res Cut) → bind (opening forms t (slice p e s) p) k ≡ k (sized h n read.rest)
+    goes_on_lem : (k : Size → Res Cut) → bind (opening forms t (slice p e s) p) k ≡ k (sized o.header o.content read.rest)
     goes_on_lem k = rw same_window (bind_eq k read.good)
 
-    pub opened-within : p + h ≤ q
+    pub opened-within : p + o.header ≤ q
     opened-within = let f = read.left in let g = read.head in omega arith
 
-    pub opened_fits : Fits w64 (h + n)
-    opened_fits = let f = read.head in let g = read.short in record { fits = omega (arith, octets_most n) }
+    pub opened_fits : Fits w64 (o.header + o.content)
+    opened_fits = let f = read.head in let g = read.short in record { fits = omega (arith, octets_most o.content) }
 
-    pub head_opened : (y : Seen) → y ≡ room_at p h n q → y ≡ head_at t s p e
+    pub head_opened : (y : Answer Span) → y ≡ room_at p o.header o.content q → y ≡ head_at t s p e
     unfolding head_at head
-    head_opened y k = k ∙ room-read t s p q h n read ∙ sym (ap seen (goes_on_lem (λ z. cut p z)))
+    head_opened y k = k ∙ room-read t s p q o.header o.content read ∙ sym (ap seen (goes_on_lem (λ z. cut p z)))
 
-    outermost_is : (most : ℕ) → outermost_at most t s p e ≡ seen (need (leb (h + n) most) too_large p (cut p (sized h n read.rest)))
+    outermost_is : (most : ℕ) → outermost_at most t s p e ≡ seen (need (leb (o.header + o.content) most) TooLarge p (cut p (sized o.header o.content read.rest)))
     unfolding outermost_at outermost
-    outermost_is most = ap seen (goes_on_lem (λ z. need (leb (z.header + z.content) most) too_large p (cut p z)))
+    outermost_is most = ap seen (goes_on_lem (λ z. need (leb (z.header + z.content) most) TooLarge p (cut p z)))
 
-    pub outermost_large : (most : ℕ) → most < h + n → Refused too_large p ≡ outermost_at most t s p e
+    pub outermost_large : (most : ℕ) → most < o.header + o.content → refused TooLarge p ≡ outermost_at most t s p e
     unfolding need
-    outermost_large most l = sym (outermost_is most ∙ rw (lt-leb (h + n) most l))
+    outermost_large most l = sym (outermost_is most ∙ rw (lt-leb (o.header + o.content) most l))
 
-    pub outermost-opened : (most : ℕ) (y : Seen) → h + n ≤ most → y ≡ room_at p h n q → y ≡ outermost_at most t s p e
+    pub outermost-opened : (most : ℕ) (y : Answer Span) → o.header + o.content ≤ most → y ≡ room_at p o.header o.content q → y ≡ outermost_at most t s p e
     unfolding need
-    outermost-opened most y l k = k ∙ room-read t s p q h n read ∙ sym (outermost_is most ∙ rw (le-leb (h + n) most l))
+    outermost-opened most y l k = k ∙ room-read t s p q o.header o.content read ∙ sym (outermost_is most ∙ rw (le-leb (o.header + o.content) most l))

@@ -7,11 +7,16 @@ ghost use Rattle.tags.specs.Tag.{tag_byte};
 ghost use Rattle.heads.specs.Scan.{head_at, outermost_at};
 ghost use Rattle.items.specs.Laws.{room_at};
 
-use heads::Seen;
-use tags::{Tag, Tagged};
-use terms::{BAD_LENGTH, ITEM_MISSING, OTHER_TAG, PAST_END, TOO_LARGE};
+use heads::Span;
+use tags::Tag;
+use terms::{Reason, Refusal};
 
-// How a length is spelled: in its one byte, or in one or two bytes after 81 or 82.
+// The first length that is spelled after 81, and the first after 82.
+const AFTER_81: usize = 128;
+
+const AFTER_82: usize = 256;
+
+// How a length is spelled: in one byte alone, or in one or two bytes more.
 #[derive(Clone, Copy)]
 enum Form {
     Short,
@@ -19,146 +24,107 @@ enum Form {
     TwoBytes,
 }
 
-// A length: its form, the bytes of tag and length together, those of the content, and whether no shorter form has it.
+// A head that was read: its length's form, the bytes of tag and length together, and those of the content.
 #[derive(Clone, Copy)]
-enum Length {
-    Spelled {
-        form: Form,
-        header: usize,
-        content: usize,
-        shortest: bool,
-    },
-    Bad,
+struct Opening {
+    form: Form,
+    header: usize,
+    content: usize,
 }
 
-// A tag and a length that were read: the bytes of both together and those of the content, or the refusal's number and place.
-#[derive(Clone, Copy)]
-enum Opening {
-    Opened { header: usize, content: usize },
-    Refused(u8, usize),
-}
-
-// A byte as a length.
-fn wide(b: u8) -> usize
-    ensures { (result ≡ b) × (result < 256) }
-{
-    b as usize
-}
-
-// The length of the item whose tag stands at a position: its form, its header and its content by the byte after the tag.
-fn length_at(s: &[u8], at: usize, stop: usize) -> Length
+// The head of the item whose tag stands at a position, by the byte after the tag; none where its length is cut or not in its shortest form.
+fn length_at(s: &[u8], at: usize, stop: usize) -> Option<Opening>
     requires { (at < stop) × (stop ≤ length s.now) }
     ensures { result ≡ length_at s.now at stop }
 {
     let left = stop - at;
     if left < 2 {
-        return Length::Bad;
+        return None;
     }
-    let b = s[at + 1];
-    match b {
-        0x00..=0x7f => Length::Spelled {
+    let first = s[at + 1];
+    match first {
+        0x00..=0x7f => Some(Opening {
             form: Form::Short,
             header: 2,
-            content: wide(b),
-            shortest: true,
-        },
+            content: usize::from(first),
+        }),
         0x81 => {
             if left < 3 {
-                return Length::Bad;
+                return None;
             }
-            let n = wide(s[at + 2]);
-            Length::Spelled {
+            let n = usize::from(s[at + 2]);
+            if n < AFTER_81 {
+                return None;
+            }
+            Some(Opening {
                 form: Form::OneByte,
                 header: 3,
                 content: n,
-                shortest: 128 <= n,
-            }
+            })
         }
         0x82 => {
             if left < 4 {
-                return Length::Bad;
+                return None;
             }
-            let n = wide(s[at + 2]) * 256 + wide(s[at + 3]);
-            Length::Spelled {
+            let n = usize::from(s[at + 2]) * 256 + usize::from(s[at + 3]);
+            if n < AFTER_82 {
+                return None;
+            }
+            Some(Opening {
                 form: Form::TwoBytes,
                 header: 4,
                 content: n,
-                shortest: 256 <= n,
-            }
+            })
         }
-        _ => Length::Bad,
+        _ => None,
     }
 }
 
 // Tag and length of the item at a position: 1, 2 or 3.
-fn open(s: &[u8], tag: Tag, at: usize, stop: usize) -> Opening
+fn open(s: &[u8], tag: Tag, at: usize, stop: usize) -> Result<Opening, Refusal>
     requires { stop ≤ length s.now }
     ensures { result ≡ opening_at (tag_byte tag) s.now at stop }
 {
     if stop <= at {
-        return Opening::Refused(ITEM_MISSING, at);
+        return Err(Reason::ItemMissing.at(at));
     }
-    let Tagged::Known(found) = tags::tag_of(s[at]) else {
-        return Opening::Refused(OTHER_TAG, at);
-    };
-    if tags::tag_byte(found) != tags::tag_byte(tag) {
-        return Opening::Refused(OTHER_TAG, at);
+    if tags::tag_of(s[at]) != Some(tag) {
+        return Err(Reason::OtherTag.at(at));
     }
-    let Length::Spelled {
-        form: _,
-        header,
-        content,
-        shortest,
-    } = length_at(s, at, stop)
-    else {
-        return Opening::Refused(BAD_LENGTH, at);
-    };
-    if !shortest {
-        return Opening::Refused(BAD_LENGTH, at);
-    }
-    Opening::Opened { header, content }
+    length_at(s, at, stop).ok_or(Reason::BadLength.at(at))
 }
 
 // The content behind a header, if it ends by the encloser's end: 4.
-fn room(at: usize, header: usize, content: usize, stop: usize) -> Seen
-    requires { at + header ≤ stop }
-    ensures { result ≡ room_at at header content stop }
+fn room(at: usize, opening: Opening, stop: usize) -> Result<Span, Refusal>
+    requires { at + opening.header ≤ stop }
+    ensures { result ≡ room_at at opening.header opening.content stop }
 {
-    let start = at + header;
-    if stop - start < content {
-        return Seen::Refused(PAST_END, at);
+    let start = at + opening.header;
+    if stop - start < opening.content {
+        return Err(Reason::PastEnd.at(at));
     }
-    Seen::Item {
+    Ok(Span {
         start,
-        end: start + content,
-    }
+        end: start + opening.content,
+    })
 }
 
 // The item of a tag at a position, up to the encloser's end: where its content lies, or 1, 2, 3 or 4.
-pub fn head(s: &[u8], tag: Tag, at: usize, end: usize) -> Seen
+pub fn head(s: &[u8], tag: Tag, at: usize, end: usize) -> Result<Span, Refusal>
     ensures { result ≡ head_at (tag_byte tag) s.now at end }
 {
     let stop = windows::nearer(end, s.len());
-    let o = open(s, tag, at, stop);
-    match o {
-        Opening::Opened { header, content } => room(at, header, content, stop),
-        Opening::Refused(number, place) => Seen::Refused(number, place),
-    }
+    room(at, open(s, tag, at, stop)?, stop)
 }
 
 // The outermost item, of at most `most` bytes with its header: 17 stands between 3 and 4.
-pub fn outermost(s: &[u8], most: usize, tag: Tag, at: usize, end: usize) -> Seen
+pub fn outermost(s: &[u8], most: usize, tag: Tag, at: usize, end: usize) -> Result<Span, Refusal>
     ensures { result ≡ outermost_at most (tag_byte tag) s.now at end }
 {
     let stop = windows::nearer(end, s.len());
-    let o = open(s, tag, at, stop);
-    match o {
-        Opening::Opened { header, content } => {
-            if most < header + content {
-                return Seen::Refused(TOO_LARGE, at);
-            }
-            room(at, header, content, stop)
-        }
-        Opening::Refused(number, place) => Seen::Refused(number, place),
+    let opened = open(s, tag, at, stop)?;
+    if most < opened.header + opened.content {
+        return Err(Reason::TooLarge.at(at));
     }
+    room(at, opened, stop)
 }

@@ -1,38 +1,41 @@
 // The seal verdict on an accepted seal (000, 6.3): the steps in their order, and no notice.
 ghost use Rattle.verdicts.specs.Verdict.{seal_rules};
-ghost use Rattle.judges.specs.Step.{Numbers, Weighs};
+ghost use Rattle.judges.specs.Step.{Finds, Weighs};
 
-use crate::{Check, steps};
+use crate::steps;
 use grounds::Grounds;
-use verdicts::{
-    Findings, MAKER_BAD, MAKER_OUT_OF_FORCE, OUTSIDE_PERIOD, SEAL_BAD, UNREAL_TIME, VALID, Verdict,
-};
+use terms::{Reason, Refusal};
+use verdicts::{Findings, Judgement, Verdict};
 
-// The seal verdict's number (000, 6.3).
-fn number(g: Grounds, f: Findings) -> u8
-    ensures { Numbers seal_rules g f result }
+// The first step that fails (000, 6.3), or valid.
+// Kept: document 01 names the form, a link by let .. else for each step.
+fn verdict(g: Grounds, f: Findings) -> Verdict
+    ensures { Finds seal_rules g f result }
 {
-    let Check::Passes = steps::seal_is_good(g, f) else {
-        return SEAL_BAD;
+    let true = steps::seal_is_good(g, f) else {
+        return Verdict::SealBad;
     };
-    let Check::Passes = steps::maker_is_good(g, f) else {
-        return MAKER_BAD;
+    let true = steps::maker_is_good(g, f) else {
+        return Verdict::MakerBad;
     };
-    let Check::Passes = steps::maker_in_force(g, f) else {
-        return MAKER_OUT_OF_FORCE;
+    let true = steps::maker_in_force(g, f) else {
+        return Verdict::MakerOutOfForce;
     };
-    let Check::Passes = steps::now_in_period(g, f) else {
-        return OUTSIDE_PERIOD;
+    let true = steps::now_in_period(g, f) else {
+        return Verdict::OutsidePeriod;
     };
-    VALID
+    Verdict::Valid
 }
 
 // The verdict on an accepted seal, which has no notice.
-pub fn judge(g: Grounds, f: Findings) -> Verdict
+pub fn judge(g: Grounds, f: Findings) -> Result<Judgement, Refusal>
     ensures { Weighs seal_rules g f result }
 {
-    let Check::Passes = steps::times_are_real(f) else {
-        return Verdict::Refused(UNREAL_TIME, 0);
-    };
-    Verdict::Judged(number(g, f), false)
+    if !real_findings::is_all_real(f) {
+        return Err(Reason::UnrealTime.at(0));
+    }
+    Ok(Judgement {
+        verdict: verdict(g, f),
+        notice: false,
+    })
 }

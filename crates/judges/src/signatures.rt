@@ -1,116 +1,117 @@
 // The signature verdict on an accepted record (000, 7.3): the steps in their order, and the notice.
 ghost use Rattle.std.specs.Prelude.{◌≡◌, [], ◌∷◌};
-ghost use Rattle.terms.specs.Numbers.{signer_bad, outside_dates, signer_revoked, digest_differs, stamp_bad, after_stamp, signer_out_at_stamp};
-ghost use Rattle.verdicts.specs.Verdict.{signature_rules, maker_out};
+ghost use Rattle.verdicts.specs.declared.Verdict.TheVariants.{SignerBad, OutsideDates, SignerRevoked, DigestDiffers, StampBad, AfterStamp, SignerOutAtStamp};
+ghost use Rattle.verdicts.specs.Verdict.{signature_rules, maker_out, verdict_number};
 ghost use Rattle.verdicts.proofs.Laws.Verdict.{takes_notice};
-ghost use Rattle.judges.specs.Step.{Of, Comes, Numbers, Judges, Weighs};
+ghost use Rattle.judges.specs.Step.{Of, Comes, Finds, Judges, Weighs};
 
-use crate::{Check, steps};
+use crate::steps;
 use grounds::Grounds;
-use verdicts::{
-    AFTER_STAMP, DIGEST_DIFFERS, Findings, MAKER_BAD, OUTSIDE_DATES, OUTSIDE_PERIOD, SEAL_BAD,
-    SEAL_WITHDRAWN, SIGNATURE_BAD, SIGNER_BAD, SIGNER_OUT_AT_STAMP, SIGNER_REVOKED,
-    SIGNER_UNLISTED, STAMP_BAD, UNREAL_TIME, VALID, Verdict,
-};
+use terms::{Reason, Refusal};
+use verdicts::{Findings, Judgement, Verdict};
 
-// The signature verdict's number: the first step that fails, in the order of the standard (000, 7.3).
-fn number(g: Grounds, f: Findings) -> u8
-    ensures { Numbers signature_rules g f result }
+// The first step that fails, in the order of the standard (000, 7.3), or valid.
+// Kept: document 01 names the form, a link by let .. else for each step.
+fn verdict(g: Grounds, f: Findings) -> Verdict
+    ensures { Finds signature_rules g f result }
 {
-    let Check::Passes = steps::signature_is_good(g, f) else {
-        return SIGNATURE_BAD;
+    let true = steps::signature_is_good(g, f) else {
+        return Verdict::SignatureBad;
     };
-    let Check::Passes = steps::signer_is_listed(g, f) else {
-        return SIGNER_UNLISTED;
+    let true = steps::signer_is_listed(g, f) else {
+        return Verdict::SignerUnlisted;
     };
-    let Check::Passes = steps::seal_is_good(g, f) else {
-        return SEAL_BAD;
+    let true = steps::seal_is_good(g, f) else {
+        return Verdict::SealBad;
     };
-    let Check::Passes = steps::maker_is_good(g, f) else {
-        return MAKER_BAD;
+    let true = steps::maker_is_good(g, f) else {
+        return Verdict::MakerBad;
     };
-    let Check::Passes = steps::signed_in_period(g, f) else {
-        return OUTSIDE_PERIOD;
+    let true = steps::signed_in_period(g, f) else {
+        return Verdict::OutsidePeriod;
     };
-    let Check::Passes = steps::seal_stands(g, f) else {
-        return SEAL_WITHDRAWN;
+    let true = steps::seal_stands(g, f) else {
+        return Verdict::SealWithdrawn;
     };
-    number_by_signer(g, f)
+    verdict_by_signer(g, f)
 }
 
-// The number of a record that passes b to d: the steps e to h.
-fn number_by_signer(g: Grounds, f: Findings) -> u8
-    ensures { Comes signature_rules (signer_bad ∷ outside_dates ∷ signer_revoked ∷ digest_differs ∷ stamp_bad ∷ after_stamp ∷ signer_out_at_stamp ∷ []) g f result }
+// The verdict on a record that passes b to d: the steps e to h.
+fn verdict_by_signer(g: Grounds, f: Findings) -> Verdict
+    ensures { Comes signature_rules (SignerBad ∷ OutsideDates ∷ SignerRevoked ∷ DigestDiffers ∷ StampBad ∷ AfterStamp ∷ SignerOutAtStamp ∷ []) g f result }
 {
-    let Check::Passes = steps::signer_is_good(g, f) else {
-        return SIGNER_BAD;
+    let true = steps::signer_is_good(g, f) else {
+        return Verdict::SignerBad;
     };
-    let Check::Passes = steps::signed_in_dates(g, f) else {
-        return OUTSIDE_DATES;
+    let true = steps::signed_in_dates(g, f) else {
+        return Verdict::OutsideDates;
     };
-    let Check::Passes = steps::signer_stands(g, f) else {
-        return SIGNER_REVOKED;
+    let true = steps::signer_stands(g, f) else {
+        return Verdict::SignerRevoked;
     };
-    let Check::Passes = steps::digest_is_alike(g, f) else {
-        return DIGEST_DIFFERS;
+    let true = steps::digest_is_alike(g, f) else {
+        return Verdict::DigestDiffers;
     };
-    number_by_stamp(g, f)
+    verdict_by_stamp(g, f)
 }
 
-// The number of a record that passes b to g: the step h.
-fn number_by_stamp(g: Grounds, f: Findings) -> u8
-    ensures { Comes signature_rules (stamp_bad ∷ after_stamp ∷ signer_out_at_stamp ∷ []) g f result }
+// The verdict on a record that passes b to g: the step h.
+fn verdict_by_stamp(g: Grounds, f: Findings) -> Verdict
+    ensures { Comes signature_rules (StampBad ∷ AfterStamp ∷ SignerOutAtStamp ∷ []) g f result }
 {
-    let Check::Passes = steps::stamp_is_good(g, f) else {
-        return STAMP_BAD;
+    let true = steps::stamp_is_good(g, f) else {
+        return Verdict::StampBad;
     };
-    let Check::Passes = steps::signed_by_stamp(g, f) else {
-        return AFTER_STAMP;
+    let true = steps::signed_by_stamp(g, f) else {
+        return Verdict::AfterStamp;
     };
-    let Check::Passes = steps::signer_in_force(g, f) else {
-        return SIGNER_OUT_AT_STAMP;
+    let true = steps::signer_in_force(g, f) else {
+        return Verdict::SignerOutAtStamp;
     };
-    VALID
+    Verdict::Valid
 }
 
-// Whether a notice goes with a number: with 0 and 26 to 34.
-fn takes_notice(number: u8) -> bool
-    ensures { result ≡ takes_notice number }
+// Whether a notice goes with a verdict: with those of the numbers 0 and 26 to 34.
+#[tactic(auto, unfolding(verdicts::proofs::Laws::Verdict::takes_notice))]
+fn takes_notice(verdict: Verdict) -> bool
+    ensures { result ≡ takes_notice (verdict_number verdict) }
 {
-    match number {
-        VALID => true,
-        OUTSIDE_PERIOD..=SIGNER_OUT_AT_STAMP => true,
-        _ => false,
-    }
+    !matches!(
+        verdict,
+        Verdict::SignatureBad
+            | Verdict::SignerUnlisted
+            | Verdict::SealBad
+            | Verdict::MakerBad
+            | Verdict::MakerOutOfForce
+    )
 }
 
 // Whether the maker's certificate is out of force both now and at signing.
+#[tactic(auto, unfolding(verdicts::specs::Verdict::maker_out))]
 fn is_maker_out(g: Grounds, f: Findings) -> bool
     ensures { Of g f (λ x. result ≡ maker_out x) }
 {
-    if findings::is_in_force(f.maker, moments::of_finding(f.now)) {
-        return false;
-    }
-    !findings::is_in_force(f.maker, g.signing)
+    let now = moments::of_finding(f.now);
+    !findings::is_in_force(f.maker, now) && !findings::is_in_force(f.maker, g.signing)
 }
 
-// The answer with a number of the signature verdict, and the notice where it goes with it.
-fn with_notice(number: u8, g: Grounds, f: Findings) -> Verdict
-    requires { Numbers signature_rules g f number }
+// The answer with a signature verdict, and the notice where it goes with it.
+fn with_notice(verdict: Verdict, g: Grounds, f: Findings) -> Judgement
+    requires { Finds signature_rules g f verdict }
     ensures { Judges signature_rules g f result }
 {
-    if !takes_notice(number) {
-        return Verdict::Judged(number, false);
+    Judgement {
+        verdict,
+        notice: takes_notice(verdict) && is_maker_out(g, f),
     }
-    Verdict::Judged(number, is_maker_out(g, f))
 }
 
 // The verdict on an accepted signature record.
-pub fn judge(g: Grounds, f: Findings) -> Verdict
+pub fn judge(g: Grounds, f: Findings) -> Result<Judgement, Refusal>
     ensures { Weighs signature_rules g f result }
 {
-    let Check::Passes = steps::times_are_real(f) else {
-        return Verdict::Refused(UNREAL_TIME, 0);
-    };
-    with_notice(number(g, f), g, f)
+    if !real_findings::is_all_real(f) {
+        return Err(Reason::UnrealTime.at(0));
+    }
+    Ok(with_notice(verdict(g, f), g, f))
 }

@@ -1,167 +1,134 @@
-// The steps: each passes or fails, as its row of the table says.
-ghost use Rattle.std.specs.Prelude.{◌≡◌, not};
-ghost use Rattle.terms.specs.Numbers.{signature_bad, signer_unlisted, seal_bad, maker_bad, maker_out_of_force, outside_period, seal_withdrawn, signer_bad, outside_dates, signer_revoked, digest_differs, stamp_bad, after_stamp, signer_out_at_stamp};
-ghost use Rattle.verdicts.specs.Findings.{all_real};
+// The steps: each passes or not, as its row of the table says.
+ghost use Rattle.verdicts.specs.declared.Verdict.TheVariants.{SignatureBad, SignerUnlisted, SealBad, MakerBad, MakerOutOfForce, OutsidePeriod, SealWithdrawn, SignerBad, OutsideDates, SignerRevoked, DigestDiffers, StampBad, AfterStamp, SignerOutAtStamp};
 ghost use Rattle.verdicts.specs.Verdict.{signature_rules, seal_rules};
-ghost use Rattle.judges.specs.Step.{failed, Tells, Stamped};
+ghost use Rattle.judges.specs.Step.{Tells, Stamped};
 
-use crate::{Check, StampTime};
 use grounds::Grounds;
+use moments::Moment;
 use verdicts::{Findings, Stamping};
 
-// A step that passes where a test holds.
-fn passes_if(holds: bool) -> Check
-    ensures { failed result ≡ not holds }
-{
-    if holds {
-        return Check::Passes;
-    }
-    Check::Fails
-}
-
 // b: the signature value is good.
-pub fn signature_is_good(g: Grounds, f: Findings) -> Check
-    ensures { Tells signature_rules signature_bad g f result }
+pub fn signature_is_good(g: Grounds, f: Findings) -> bool
+    ensures { Tells signature_rules SignatureBad g f result }
 {
-    passes_if(f.signature)
+    f.signature
 }
 
 // c: the signer is in the list.
-pub fn signer_is_listed(g: Grounds, f: Findings) -> Check
-    ensures { Tells signature_rules signer_unlisted g f result }
+pub fn signer_is_listed(g: Grounds, f: Findings) -> bool
+    ensures { Tells signature_rules SignerUnlisted g f result }
 {
-    passes_if(g.listed)
+    g.listed
 }
 
 // d: the seal's signature value is good.
-pub fn seal_is_good(g: Grounds, f: Findings) -> Check
-    ensures tells { Tells signature_rules seal_bad g f result }
-    ensures tells_2 { Tells seal_rules seal_bad g f result }
+pub fn seal_is_good(g: Grounds, f: Findings) -> bool
+    ensures tells { Tells signature_rules SealBad g f result }
+    ensures tells_2 { Tells seal_rules SealBad g f result }
 {
-    passes_if(f.sealing)
+    f.sealing
 }
 
 // d: the maker's chain and usage are good.
-pub fn maker_is_good(g: Grounds, f: Findings) -> Check
-    ensures tells { Tells signature_rules maker_bad g f result }
-    ensures tells_2 { Tells seal_rules maker_bad g f result }
+pub fn maker_is_good(g: Grounds, f: Findings) -> bool
+    ensures tells { Tells signature_rules MakerBad g f result }
+    ensures tells_2 { Tells seal_rules MakerBad g f result }
 {
-    passes_if(findings::is_sound(f.maker))
+    findings::is_sound(f.maker)
 }
 
 // d: the signing time is within the seal's period.
-pub fn signed_in_period(g: Grounds, f: Findings) -> Check
-    ensures { Tells signature_rules outside_period g f result }
+pub fn signed_in_period(g: Grounds, f: Findings) -> bool
+    ensures { Tells signature_rules OutsidePeriod g f result }
 {
-    passes_if(findings::is_between(g.start, g.end, g.signing))
+    findings::is_between(g.start, g.end, g.signing)
 }
 
 // d: the seal is not withdrawn at or before signing.
-pub fn seal_stands(g: Grounds, f: Findings) -> Check
-    ensures { Tells signature_rules seal_withdrawn g f result }
+pub fn seal_stands(g: Grounds, f: Findings) -> bool
+    ensures { Tells signature_rules SealWithdrawn g f result }
 {
-    let seal = f.seal;
-    let withdrawn = seal.withdrawn;
-    passes_if(!findings::is_revoked_by(withdrawn, g.signing))
+    !findings::is_revoked_by(f.seal.withdrawn, g.signing)
 }
 
 // e: the signer's chain and usage are good.
-pub fn signer_is_good(g: Grounds, f: Findings) -> Check
-    ensures { Tells signature_rules signer_bad g f result }
+pub fn signer_is_good(g: Grounds, f: Findings) -> bool
+    ensures { Tells signature_rules SignerBad g f result }
 {
-    passes_if(findings::is_sound(f.signer))
+    findings::is_sound(f.signer)
 }
 
 // f: the signing time is within the signer's dates.
-pub fn signed_in_dates(g: Grounds, f: Findings) -> Check
-    ensures { Tells signature_rules outside_dates g f result }
+pub fn signed_in_dates(g: Grounds, f: Findings) -> bool
+    ensures { Tells signature_rules OutsideDates g f result }
 {
-    let signer = f.signer;
-    passes_if(findings::is_within_dates(signer.dates, g.signing))
+    findings::is_within_dates(f.signer.dates, g.signing)
 }
 
 // f: the signer is not revoked at or before signing.
-pub fn signer_stands(g: Grounds, f: Findings) -> Check
-    ensures { Tells signature_rules signer_revoked g f result }
+pub fn signer_stands(g: Grounds, f: Findings) -> bool
+    ensures { Tells signature_rules SignerRevoked g f result }
 {
-    let signer = f.signer;
-    let revocation = signer.revocation;
-    passes_if(!findings::is_revoked_by(revocation, g.signing))
+    !findings::is_revoked_by(f.signer.revocation, g.signing)
 }
 
 // g: the original's digest is the given one.
-pub fn digest_is_alike(g: Grounds, f: Findings) -> Check
-    ensures { Tells signature_rules digest_differs g f result }
+pub fn digest_is_alike(g: Grounds, f: Findings) -> bool
+    ensures { Tells signature_rules DigestDiffers g f result }
 {
-    passes_if(g.alike)
+    g.alike
 }
 
 // The time of a stamp that is there and good.
-fn good_stamp(g: Grounds, f: Findings) -> StampTime
+fn good_stamp(g: Grounds, f: Findings) -> Option<Moment>
     ensures { Stamped g f result }
 {
     if !g.stamped {
-        return StampTime::None;
+        return None;
     }
-    let stamp = f.stamp;
-    let state = stamp.state;
-    match state {
-        Stamping::Unchecked => StampTime::None,
-        Stamping::Bad => StampTime::None,
-        Stamping::Good(time) => StampTime::At(moments::of_finding(time)),
+    match f.stamp.state {
+        Stamping::Unchecked | Stamping::Bad => None,
+        Stamping::Good(time) => Some(moments::of_finding(time)),
     }
 }
 
 // h: a stamp that is there is good.
-pub fn stamp_is_good(g: Grounds, f: Findings) -> Check
-    ensures { Tells signature_rules stamp_bad g f result }
+pub fn stamp_is_good(g: Grounds, f: Findings) -> bool
+    ensures { Tells signature_rules StampBad g f result }
 {
-    if !g.stamped {
-        return Check::Passes;
-    }
-    let StampTime::At(_) = good_stamp(g, f) else {
-        return Check::Fails;
-    };
-    Check::Passes
+    !g.stamped || good_stamp(g, f).is_some()
 }
 
 // h: signing is not later than a good stamp's time.
-pub fn signed_by_stamp(g: Grounds, f: Findings) -> Check
-    ensures { Tells signature_rules after_stamp g f result }
+pub fn signed_by_stamp(g: Grounds, f: Findings) -> bool
+    ensures { Tells signature_rules AfterStamp g f result }
 {
-    let StampTime::At(stamp) = good_stamp(g, f) else {
-        return Check::Passes;
+    let Some(stamp) = good_stamp(g, f) else {
+        return true;
     };
-    passes_if(moments::is_not_later(g.signing, stamp))
+    moments::is_not_later(g.signing, stamp)
 }
 
 // h: the signer's certificate is in force at a good stamp's time.
-pub fn signer_in_force(g: Grounds, f: Findings) -> Check
-    ensures { Tells signature_rules signer_out_at_stamp g f result }
+pub fn signer_in_force(g: Grounds, f: Findings) -> bool
+    ensures { Tells signature_rules SignerOutAtStamp g f result }
 {
-    let StampTime::At(stamp) = good_stamp(g, f) else {
-        return Check::Passes;
+    let Some(stamp) = good_stamp(g, f) else {
+        return true;
     };
-    passes_if(findings::is_in_force(f.signer, stamp))
+    findings::is_in_force(f.signer, stamp)
 }
 
 // The maker's certificate is in force now.
-pub fn maker_in_force(g: Grounds, f: Findings) -> Check
-    ensures { Tells seal_rules maker_out_of_force g f result }
+pub fn maker_in_force(g: Grounds, f: Findings) -> bool
+    ensures { Tells seal_rules MakerOutOfForce g f result }
 {
-    passes_if(findings::is_in_force(f.maker, moments::of_finding(f.now)))
+    findings::is_in_force(f.maker, moments::of_finding(f.now))
 }
 
 // Now is within the seal's period.
-pub fn now_in_period(g: Grounds, f: Findings) -> Check
-    ensures { Tells seal_rules outside_period g f result }
+pub fn now_in_period(g: Grounds, f: Findings) -> bool
+    ensures { Tells seal_rules OutsidePeriod g f result }
 {
-    passes_if(findings::is_between(g.start, g.end, moments::of_finding(f.now)))
-}
-
-// Every time in the findings is a real date.
-pub fn times_are_real(f: Findings) -> Check
-    ensures { failed result ≡ not (all_real f) }
-{
-    passes_if(real_findings::is_all_real(f))
+    findings::is_between(g.start, g.end, moments::of_finding(f.now))
 }

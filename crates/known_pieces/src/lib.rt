@@ -10,24 +10,29 @@ ghost use Rattle.pieces.specs.Piece.{wrote};
 use pieces::Moved;
 use primitives::{Primitive, Word};
 use sides::Side;
+use sources::Source;
 
 // A known member, which a sheet has not.
 fn known_out(dst: &mut [u8], pos: usize, to: Side, w: Word) -> usize
     ensures { (result, dst.new) ≡ puts (known_out to (known_of w)) dst.old pos }
 {
-    match to {
-        Side::Record => match w {
-            Word::HeaderName => pieces::value(dst, pos, to, Primitive::HeaderName, b"ES"),
-            Word::Version => pieces::value(dst, pos, to, Primitive::Version, b"\x04"),
-        },
-        Side::Sheet => pos,
+    match (to, w) {
+        (Side::Record, Word::HeaderName) => pieces::value(
+            dst,
+            pos,
+            to,
+            Primitive::HeaderName,
+            b"ES",
+        ),
+        (Side::Record, Word::Version) => pieces::value(dst, pos, to, Primitive::Version, b"\x04"),
+        (Side::Sheet, _) => pos,
     }
 }
 
 // A known member from a source.
+// Kept: a struct of the lent destination and its position would be taken apart and built anew at each call.
 pub fn known(
-    s: &[u8],
-    from: Side,
+    source: Source<'_>,
     to: Side,
     w: Word,
     at: usize,
@@ -35,9 +40,9 @@ pub fn known(
     dst: &mut [u8],
     pos: usize,
 ) -> Moved
-    ensures { (result.next, result.to, dst.new) ≡ wrote (move_known from to (known_of w) s.now at end) dst.old pos }
+    ensures { (result.next, result.to, dst.new) ≡ wrote (move_known source.entry.side to (known_of w) source.entry.bytes.now at end) dst.old pos }
 {
-    let n = spans::known(s, from, w, at, end);
+    let n = spans::known(source, w, at, end);
     let o = known_out(dst, pos, to, w);
     Moved { next: n, to: o }
 }

@@ -1,9 +1,10 @@
 -- A small layout with an optional list, a choice and a flag, and a list of such, evaluated. Assumes nothing.
-use Rattle.std.specs.Prelude.{◌≡◌, refl, ℕ, true, List, [], ◌∷◌, ◌++◌, length, replicate, set, take, drop}
+use Rattle.std.specs.Prelude.{◌≡◌, refl, ℕ, true, List, [], ◌∷◌, ◌++◌, length, replicate, set, take, drop, Ok, pos}
 use Rattle.terms.specs.declared.Field.{Field}
 use Rattle.terms.specs.declared.Field.TheVariants.{Header, Property, ListKind, CertificateList, ListedEntry, ListedDigest, SealCustomData, SealCustomItem, SealCustomCritical, Stamp}
-use Rattle.terms.specs.Numbers.{done, other_tag, bad_boolean, left_over, bad_bits, no_bytes, too_many_items, too_large, bad_sheet, no_room}
-use Rattle.terms.specs.Answer.{good, pick, bind, need, have, every, enough, same, finish, Told, told_one, refusal, answered, never_empty}
+use Rattle.terms.specs.Numbers.{done}
+use Rattle.terms.specs.declared.Reason.TheVariants.{OtherTag, BadBoolean, LeftOver, BadBits, NoBytes, TooManyItems, TooLarge, BadSheet, NoRoom}
+use Rattle.terms.specs.Answer.{good, pick, bind, need, have, every, enough, same, finish, Told, told_one, refusal, refuses, answered, never_empty, refused}
 use Rattle.terms.specs.Digits.{digits, number_from, number, leading}
 use Rattle.terms.specs.Laws.Table.{Row, asks, answers, same_number, same_numbers, same_told, agree, agreed}
 use Rattle.heads.specs.Head.{spell, octets, tlv, unspell, any_size, is_shortest, size, opening, cut, head, outermost}
@@ -17,7 +18,6 @@ use Rattle.layouts.specs.Whole.{sequence, record_of, record_at, accept, accept_s
 use Rattle.layouts.specs.Fields.{Entry, list_entry, each_fields, option_fields, either_fields, flag_fields, item_fields, fields}
 use Rattle.layouts.specs.Passed.{passed_leaf, passed_many, passed, record_passed}
 use Rattle.layouts.specs.Places.{table_size, slot, under, wanted}
-use Rattle.layouts.specs.declared.Outcome.TheVariants.{Length, Refused}
 
 evaluate : Unit {0}
 unfolding pick bind need have every enough same same_number same_numbers same_told agree digits number_from leading spell octets tlv unspell any_size is_shortest size opening cut head outermost ask place_of judge octets_rule boolean_rule each option either encode_leaf critical encode behind read_leaf begins finish many read_option read_flag read_either read count section critical_byte sheet_option sheet_list sheet read_count read_section fill_leaf times critical_in fill_flag fill_option fill_list fill record_at accept accept_sheet fit fill_sheet write_record stored
@@ -48,25 +48,25 @@ rows =
     (accepted (of1 6 []), told_one done 8)
     -- the kind decides, not the tag that stands there
     ∷ (accepted (0x30 ∷ 8 ∷ 0x04 ∷ 0x01 ∷ 0x02 ∷ 0x30 ∷ 0x03 ∷ 0x04 ∷ 0x01 ∷ 0xAA ∷ []), told_one done 10)
-    ∷ (accepted (0x30 ∷ 8 ∷ 0x04 ∷ 0x01 ∷ 0x01 ∷ 0x30 ∷ 0x03 ∷ 0x04 ∷ 0x01 ∷ 0xAA ∷ []), refusal other_tag 5)
-    ∷ (accepted (0x30 ∷ 6 ∷ 0x04 ∷ 0x01 ∷ 0x02 ∷ 0x04 ∷ 0x01 ∷ 0xAA ∷ []), refusal other_tag 5)
+    ∷ (accepted (0x30 ∷ 8 ∷ 0x04 ∷ 0x01 ∷ 0x01 ∷ 0x30 ∷ 0x03 ∷ 0x04 ∷ 0x01 ∷ 0xAA ∷ []), refusal OtherTag 5)
+    ∷ (accepted (0x30 ∷ 6 ∷ 0x04 ∷ 0x01 ∷ 0x02 ∷ 0x04 ∷ 0x01 ∷ 0xAA ∷ []), refusal OtherTag 5)
     -- a flag: there, absent, written out as false, there twice
     ∷ (accepted (of1 9 (0x01 ∷ 0x01 ∷ 0xFF ∷ [])), told_one done 11)
-    ∷ (accepted (of1 9 (0x01 ∷ 0x01 ∷ 0x00 ∷ [])), refusal bad_boolean 8)
-    ∷ (accepted (of1 12 (0x01 ∷ 0x01 ∷ 0xFF ∷ 0x01 ∷ 0x01 ∷ 0xFF ∷ [])), refusal left_over 11)
+    ∷ (accepted (of1 9 (0x01 ∷ 0x01 ∷ 0x00 ∷ [])), refusal BadBoolean 8)
+    ∷ (accepted (of1 12 (0x01 ∷ 0x01 ∷ 0xFF ∷ 0x01 ∷ 0x01 ∷ 0xFF ∷ [])), refusal LeftOver 11)
     -- an optional list: with no items, with a third one
     ∷ (accepted (of1 8 (0x30 ∷ 0x00 ∷ [])), told_one done 10)
-    ∷ (accepted (of1 17 (0x30 ∷ 0x09 ∷ 0x04 ∷ 0x01 ∷ 0x01 ∷ 0x04 ∷ 0x01 ∷ 0x02 ∷ 0x05 ∷ 0x01 ∷ 0x03 ∷ [])), refusal too_many_items 16)
+    ∷ (accepted (of1 17 (0x30 ∷ 0x09 ∷ 0x04 ∷ 0x01 ∷ 0x01 ∷ 0x04 ∷ 0x01 ∷ 0x02 ∷ 0x05 ∷ 0x01 ∷ 0x03 ∷ [])), refusal TooManyItems 16)
     -- absent and empty have different sheets: 5 + 5 + 5 + 4, and one count more
     ∷ (filled (of1 6 []), told_one done 19)
     ∷ (filled (of1 8 (0x30 ∷ 0x00 ∷ [])), told_one done 23)
     -- "A reader that fills a sheet gives 20 after all else."
     ∷ (filled_at_most 8 (of1 6 []) 19, told_one done 19)
-    ∷ (filled_at_most 8 (of1 6 []) 18, refusal no_room 19)
-    ∷ (filled_at_most 7 (of1 6 []) 18, refusal too_large 0)
+    ∷ (filled_at_most 8 (of1 6 []) 18, refusal NoRoom 19)
+    ∷ (filled_at_most 7 (of1 6 []) 18, refusal TooLarge 0)
     -- the code's answer in numbers
-    ∷ (told_outcome (Length 165), told_one 0 165)
-    ∷ (told_outcome (Refused 5 165), refusal 5 165)
+    ∷ (told_outcome (Ok 165), told_one 0 165)
+    ∷ (told_outcome (refused LeftOver 165), refuses 5 (pos 165 ∷ []))
     ∷ []
 
 small_records : asks rows ≡ answers rows
@@ -82,10 +82,10 @@ abbrev bit_strings : List Row
 bit_strings =
     (bits_of (0x03 ∷ 0x02 ∷ 0x00 ∷ 0xCC ∷ []), told_one done 0xCC)
     ∷ (bits_of (0x03 ∷ 0x03 ∷ 0x00 ∷ 0x00 ∷ 0x01 ∷ []), told_one done 0x01)
-    ∷ (bits_of (0x03 ∷ 0x00 ∷ []), refusal bad_bits 0)
-    ∷ (bits_of (0x03 ∷ 0x01 ∷ 0x01 ∷ []), refusal bad_bits 0)
-    ∷ (bits_of (0x03 ∷ 0x02 ∷ 0x08 ∷ 0xCC ∷ []), refusal bad_bits 0)
-    ∷ (bits_of (0x03 ∷ 0x01 ∷ 0x00 ∷ []), refusal no_bytes 0)
+    ∷ (bits_of (0x03 ∷ 0x00 ∷ []), refusal BadBits 0)
+    ∷ (bits_of (0x03 ∷ 0x01 ∷ 0x01 ∷ []), refusal BadBits 0)
+    ∷ (bits_of (0x03 ∷ 0x02 ∷ 0x08 ∷ 0xCC ∷ []), refusal BadBits 0)
+    ∷ (bits_of (0x03 ∷ 0x01 ∷ 0x00 ∷ []), refusal NoBytes 0)
     ∷ []
 
 bit-strings : asks bit_strings ≡ answers bit_strings
@@ -149,21 +149,21 @@ written most x room = answered (λ w. length w) (write_record most small x room)
 abbrev writings : List Row
 writings =
     (written 19 full_sheet 19, told_one done 19)
-    ∷ (written 19 full_sheet 18, refusal no_room 19)
-    ∷ (written 18 full_sheet 19, refusal too_large 0)
-    ∷ (written 18 full_sheet 18, refusal too_large 0)
-    ∷ (written 18 (full_sheet ++ 0x00 ∷ []) 18, refusal bad_sheet 33)
+    ∷ (written 19 full_sheet 18, refusal NoRoom 19)
+    ∷ (written 18 full_sheet 19, refusal TooLarge 0)
+    ∷ (written 18 full_sheet 18, refusal TooLarge 0)
+    ∷ (written 18 (full_sheet ++ 0x00 ∷ []) 18, refusal BadSheet 33)
     -- 19: cut, the flag's count and byte, the optional's count; 16 at the list's count
-    ∷ (written 100 (take 32 full_sheet) 100, refusal bad_sheet 28)
-    ∷ (written 100 (take 22 full_sheet) 100, refusal bad_sheet 19)
-    ∷ (written 100 (set full_sheet 13 0x02) 100, refusal bad_sheet 10)
-    ∷ (written 100 (set full_sheet 14 0x02) 100, refusal bad_sheet 10)
-    ∷ (written 100 (set full_sheet 18 0x02) 100, refusal bad_sheet 15)
-    ∷ (written 100 (set full_sheet 22 0x03) 100, refusal too_many_items 19)
+    ∷ (written 100 (take 32 full_sheet) 100, refusal BadSheet 28)
+    ∷ (written 100 (take 22 full_sheet) 100, refusal BadSheet 19)
+    ∷ (written 100 (set full_sheet 13 0x02) 100, refusal BadSheet 10)
+    ∷ (written 100 (set full_sheet 14 0x02) 100, refusal BadSheet 10)
+    ∷ (written 100 (set full_sheet 18 0x02) 100, refusal BadSheet 15)
+    ∷ (written 100 (set full_sheet 22 0x03) 100, refusal TooManyItems 19)
     -- a second string of 65,536 bytes, whose length no record can have
-    ∷ (written 65535 (take 5 bare_sheet ++ 0x00 ∷ 0x01 ∷ 0x00 ∷ 0x00 ∷ replicate 65536 0x5A ++ drop 10 bare_sheet) 100, refusal too_large 0)
+    ∷ (written 65535 (take 5 bare_sheet ++ 0x00 ∷ 0x01 ∷ 0x00 ∷ 0x00 ∷ replicate 65536 0x5A ++ drop 10 bare_sheet) 100, refusal TooLarge 0)
     -- a list of none, and behind it what were its items
-    ∷ (written 100 (set full_sheet 22 0x00) 100, refusal bad_sheet 23)
+    ∷ (written 100 (set full_sheet 22 0x00) 100, refusal BadSheet 23)
     ∷ []
 
 small-sheets : asks writings ≡ answers writings

@@ -1,25 +1,20 @@
 -- Reading by positions, what it notes in the table of places, and behind it. Assumes nothing.
 -- Nobody has to believe this page: `Laws.Passed` proves that a reading notes the fields that it passes, `Laws.About` that a refused item notes
 -- whose fault it is, and code is proved against its steps.
-use Rattle.std.specs.Prelude.{ℕ, suc, zero, ◌+◌, ◌-◌, Bool, ◌&&◌, ◌||◌, List, [], ◌∷◌, length, get_or, set, eqb, ltb}
+use Rattle.std.specs.Prelude.{ℕ, suc, zero, ◌+◌, ◌-◌, Bool, ◌&&◌, ◌||◌, List, [], ◌∷◌, length, get_or, set, eqb, ltb, Ok, Err}
 use Rattle.std.proofs.Math.Seq.{slice}
 use Rattle.terms.specs.declared.Field.{Field}
 use Rattle.terms.specs.Names.{code}
-use Rattle.terms.specs.Numbers.{too_many_items}
-use Rattle.terms.specs.Answer.{pick}
+use Rattle.terms.specs.declared.Reason.TheVariants.{TooManyItems}
+use Rattle.terms.specs.Answer.{pick, Answer, refused}
 use Rattle.heads.specs.Scan.{head_at, outermost_at, begins_at, close_at}
-use Rattle.heads.specs.declared.Seen.{Seen}
-use Rattle.heads.specs.declared.Seen.TheVariants.{Item as At, Refused as Bad}
-use Rattle.heads.specs.declared.Step.{Step}
-use Rattle.heads.specs.declared.Step.TheVariants.{Next, Refused}
+use Rattle.heads.specs.declared.Span.{Span}
 use Rattle.contents.specs.Leaves.{Leaf, boolean}
 use Rattle.layouts.specs.Layout.{Item, leaf, node, list, wrap, Members, end, ◌▸◌, Member, known, one, maybe, flag, choose, tag_of}
 use Rattle.layouts.specs.Whole.{sequence}
-use Rattle.layouts.specs.Scan.{leaf_at, scan, scans, scan_part}
+use Rattle.layouts.specs.Scan.{then_step, leaf_at, scan, scans, scan_part}
 use Rattle.layouts.specs.Fields.{Entry}
 use Rattle.layouts.specs.Places.{table_size, slot, wanted}
-use Rattle.layouts.specs.declared.Tally.{Tally}
-use Rattle.layouts.specs.declared.Tally.TheVariants.{Items, Refused as Uncounted}
 
 -- four numbers of the table, from `n` on, that are there and not taken
 unfoldable pub free : List ℕ → ℕ → Bool
@@ -44,34 +39,26 @@ unfoldable pub blamed : Field → List ℕ → List ℕ
 blamed f d = pick (unblamed d) (set d table_size (code f + 1)) d
 
 -- the table after what was seen, read or counted; where it was refused, the table that is given
-abbrev pub after_seen : Seen → List ℕ → (ℕ → ℕ → List ℕ) → List ℕ
-after_seen (At a z) d k = k a z
-after_seen (Bad n p) d k = d
+abbrev pub after_seen : Answer Span → List ℕ → (ℕ → ℕ → List ℕ) → List ℕ
+after_seen (Ok i) d k = k i.start i.end
+after_seen (Err e) d k = d
 
-abbrev pub after_step : Step → List ℕ → (ℕ → List ℕ) → List ℕ
-after_step (Next q) d k = k q
-after_step (Refused n p) d k = d
+abbrev pub after_step : Answer ℕ → List ℕ → (ℕ → List ℕ) → List ℕ
+after_step (Ok q) d k = k q
+after_step (Err e) d k = d
 
 -- a refusal is noted as the name's
-abbrev pub blaming : Step → Field → List ℕ → List ℕ
-blaming (Next q) f d = d
-blaming (Refused n p) f d = blamed f d
-
-abbrev pub after_tally : Tally → List ℕ → (ℕ → List ℕ) → List ℕ
-after_tally (Items n) d k = k n
-after_tally (Uncounted n p) d k = d
-
-abbrev pub then_tally : Step → (ℕ → Tally) → Tally
-then_tally (Next q) k = k q
-then_tally (Refused n p) k = Uncounted n p
+abbrev pub blaming : {A : Type 0} → Answer A → Field → List ℕ → List ℕ
+blaming (Ok x) f d = d
+blaming (Err e) f d = blamed f d
 
 -- the number of items to the end, `j` of them before here and at most `n` more
-unfoldable pub tally : (ℕ → Step) → ℕ → ℕ → ℕ → ℕ → Tally
-tally f zero j p e = pick (ltb p e) (Uncounted too_many_items p) (Items j)
-tally f (suc n) j p e = pick (ltb p e) (then_tally (f p) λ q. tally f n (suc j) q e) (Items j)
+unfoldable pub tally : (ℕ → Answer ℕ) → ℕ → ℕ → ℕ → ℕ → Answer ℕ
+tally f zero j p e = pick (ltb p e) (refused TooManyItems p) (Ok j)
+tally f (suc n) j p e = pick (ltb p e) (then_step (f p) λ q. tally f n (suc j) q e) (Ok j)
 
 -- the table after them; `m` notes an item of an index at a position
-unfoldable pub many_marks : (ℕ → Step) → (ℕ → ℕ → List ℕ → List ℕ) → ℕ → ℕ → ℕ → ℕ → List ℕ → List ℕ
+unfoldable pub many_marks : (ℕ → Answer ℕ) → (ℕ → ℕ → List ℕ → List ℕ) → ℕ → ℕ → ℕ → ℕ → List ℕ → List ℕ
 many_marks f m zero j p e d = d
 many_marks f m (suc n) j p e d = pick (ltb p e) (after_step (f p) (m j p d) λ q. many_marks f m n (suc j) q e (m j p d)) d
 
@@ -85,7 +72,7 @@ unfoldable mutual
   marks (list t o n g i) f k s p e d =
       after_seen (head_at t s p e) (blamed f d) λ a z.
       pick (o || ltb a z)
-      (after_tally (tally (λ q. scan i s q z) n 0 a z) (blamed f (many_marks (λ q. scan i s q z) (λ j q x. marks i g j s q z x) n 0 a z d)) λ c.
+      (after_step (tally (λ q. scan i s q z) n 0 a z) (blamed f (many_marks (λ q. scan i s q z) (λ j q x. marks i g j s q z x) n 0 a z d)) λ c.
       noted f k p z c (many_marks (λ q. scan i s q z) (λ j q x. marks i g j s q z x) n 0 a z d))
       (blamed f d)
   marks (wrap t i) f k s p e d = after_seen (head_at t s p e) (blamed f d) λ a z. after_step (scan i s a z) (marks i f k s a z d) λ q. blaming (close_at q z) f (marks i f k s a z d)

@@ -1,7 +1,7 @@
 -- The fields of a record up to where it is refused: each item that was read, and each structure whose head was read. Assumes nothing.
 use Rattle.std.specs.Prelude.{ℕ, suc, zero, List, [], ◌∷◌, ◌++◌, length}
 use Rattle.terms.specs.declared.Field.{Field}
-use Rattle.terms.specs.Numbers.{no_item}
+use Rattle.terms.specs.declared.Reason.TheVariants.{NoItem}
 use Rattle.terms.specs.Answer.{Res, Got, pick, unread, need, enough}
 use Rattle.heads.specs.Head.{forms, head, outermost, tlv}
 use Rattle.contents.specs.Leaves.{Leaf, boolean}
@@ -30,7 +30,7 @@ unfoldable mutual
   passed (list t e n g i) f k w b =
       of_read (head forms t w b) λ c.
       passed_many (λ x p. read i x p) (λ j x p. passed i g j x p) n 0 c.content c.start
-      ++ (of_read (need (enough e c.content) no_item b (many (λ x p. read i x p) n c.content c.start)) λ vs. list_entry f k b (tlv t c.content) (length vs) ∷ [])
+      ++ (of_read (need (enough e c.content) NoItem b (many (λ x p. read i x p) n c.content c.start)) λ vs. list_entry f k b (tlv t c.content) (length vs) ∷ [])
   passed (wrap t i) f k w b = of_read (head forms t w b) λ c. passed i f k c.content c.start
 
   pub passed_all : Members → ℕ → List ℕ → ℕ → List Entry

@@ -3,7 +3,7 @@
 use Rattle.std.specs.Prelude.{◌⊎◌, ℕ, suc, zero, ◌+◌, Bool, true, false, List, [], ◌∷◌, length, take, drop, eqb}
 use Rattle.std.proofs.Common.{inl, inr}
 use Rattle.std.proofs.Math.Option.{Option, none, some}
-use Rattle.terms.specs.Numbers.{left_over, bad_bits, no_item, too_many_items}
+use Rattle.terms.specs.declared.Reason.TheVariants.{LeftOver, BadBits, NoItem, TooManyItems}
 use Rattle.terms.specs.Answer.{Res, good, fault, Got, got, pick, bind, need, enough, same, finish}
 use Rattle.heads.specs.Head.{forms, Cut, cut_off, head}
 use Rattle.contents.specs.Content.{judge}
@@ -16,7 +16,7 @@ next c = c.start + length c.content
 
 -- what stands behind the bytes that a content must begin with: "bit string empty, or first byte not 00"
 unfoldable pub behind : List ℕ → ℕ → Cut → Res Cut
-behind f b c = need (same (take (length f) c.content) f) bad_bits b (good (cut_off (drop (length f) c.content) c.rest (c.start + length f)))
+behind f b c = need (same (take (length f) c.content) f) BadBits b (good (cut_off (drop (length f) c.content) c.rest (c.start + length f)))
 
 -- a primitive item, its value as the content: its head, what it must begin with, then its own rule
 unfoldable pub read_leaf : Leaf → List ℕ → ℕ → Res Cut
@@ -30,7 +30,7 @@ begins t (x ∷ w) = eqb x t
 -- items to the end of the window, at most `n`: "a 65th item in a list, of any tag; place: its tag"
 unfoldable pub many : {A : Type 0} → (List ℕ → ℕ → Res (Got A)) → ℕ → List ℕ → ℕ → Res (List A)
 many f zero [] b = good []
-many f zero (x ∷ w) b = fault too_many_items b
+many f zero (x ∷ w) b = fault TooManyItems b
 many f (suc n) [] b = good []
 many f (suc n) (x ∷ w) b = bind (f (x ∷ w) b) λ a. bind (many f n a.rest a.after) λ xs. good (a.value ∷ xs)
 
@@ -50,12 +50,12 @@ unfoldable mutual
   read (node t r) w b = bind (head forms t w b) λ c. bind (reads r c.content c.start) λ v. good (got v c.rest (next c))
   read (list t e n f i) w b =
       bind (head forms t w b) λ c.
-      need (enough e c.content) no_item b
+      need (enough e c.content) NoItem b
       (bind (many (λ x p. read i x p) n c.content c.start) λ vs. good (got vs c.rest (next c)))
-  read (wrap t i) w b = bind (head forms t w b) λ c. bind (read i c.content c.start) λ a. bind (finish left_over a) λ v. good (got v c.rest (next c))
+  read (wrap t i) w b = bind (head forms t w b) λ c. bind (read i c.content c.start) λ a. bind (finish LeftOver a) λ v. good (got v c.rest (next c))
 
   pub reads : (r : Members) → List ℕ → ℕ → Res (Values r)
-  reads end w b = finish left_over (got tt w b)
+  reads end w b = finish LeftOver (got tt w b)
   reads (m ▸ r) w b = bind (read_part m w b) λ a. bind (reads r a.rest a.after) λ v. good (a.value, v)
 
   pub read_part : (m : Member) → List ℕ → ℕ → Res (Got (Part m))

@@ -1,7 +1,7 @@
 -- The field sheet (01, "The field sheet"): "sections in a fixed order, each after its count, four bytes, big-endian". Assumes nothing.
 use Rattle.std.specs.Prelude.{ℕ, suc, zero, ◌+◌, Bool, true, false, ◌||◌, List, [], ◌∷◌, ◌++◌, length, take, drop, leb, eqb}
 use Rattle.std.proofs.Math.Option.{Option, none, some}
-use Rattle.terms.specs.Numbers.{no_item, too_many_items, bad_sheet}
+use Rattle.terms.specs.declared.Reason.TheVariants.{NoItem, TooManyItems, BadSheet}
 use Rattle.terms.specs.Answer.{Res, good, Got, got, pick, bind, need, have, same}
 use Rattle.terms.specs.Digits.{digits, leading}
 use Rattle.heads.specs.Head.{Cut, cut_off}
@@ -57,14 +57,14 @@ unfoldable mutual
 -- ---- reading: 19 before a section's own rule
 
 unfoldable pub read_count : List ℕ → ℕ → Res (ℕ × List ℕ)
-read_count w p = have (leading count_bytes w) bad_sheet p
+read_count w p = have (leading count_bytes w) BadSheet p
 
 -- a section's bytes, what stands after it, and where its bytes start
 unfoldable pub read_section : List ℕ → ℕ → Res Cut
-read_section w p = bind (read_count w p) λ n. need (leb n.0 (length n.1)) bad_sheet p (good (cut_off (take n.0 n.1) (drop n.0 n.1) (p + count_bytes)))
+read_section w p = bind (read_count w p) λ n. need (leb n.0 (length n.1)) BadSheet p (good (cut_off (take n.0 n.1) (drop n.0 n.1) (p + count_bytes)))
 
 unfoldable pub fill_leaf : Leaf → List ℕ → ℕ → Res (Got (List ℕ))
-fill_leaf l w p = bind (read_section w p) λ c. bind (have (value_in l.holds c.content) bad_sheet p) λ v. judge (rule_of l.holds v) p c.start (good (got v c.rest (next c)))
+fill_leaf l w p = bind (read_section w p) λ c. bind (have (value_in l.holds c.content) BadSheet p) λ v. judge (rule_of l.holds v) p c.start (good (got v c.rest (next c)))
 
 unfoldable pub times : {A : Type 0} → (List ℕ → ℕ → Res (Got A)) → ℕ → List ℕ → ℕ → Res (Got (List A))
 times f zero w p = good (got [] w p)
@@ -74,19 +74,19 @@ unfoldable pub critical_in : List ℕ → Option Bool
 critical_in x = pick (same x (0 ∷ [])) (some false) (pick (same x (1 ∷ [])) (some true) none)
 
 unfoldable pub fill_flag : List ℕ → ℕ → Res (Got Bool)
-fill_flag w p = bind (read_section w p) λ c. bind (have (critical_in c.content) bad_sheet p) λ v. good (got v c.rest (next c))
+fill_flag w p = bind (read_section w p) λ c. bind (have (critical_in c.content) BadSheet p) λ v. good (got v c.rest (next c))
 
 unfoldable pub fill_option : {A : Type 0} → (List ℕ → ℕ → Res (Got A)) → List ℕ → ℕ → Res (Got (Option A))
 fill_option f w p =
     bind (read_count w p) λ n.
     pick (eqb n.0 0) (good (got none n.1 (p + count_bytes)))
-    (need (eqb n.0 1) bad_sheet p (bind (f n.1 (p + count_bytes)) λ a. good (got (some a.value) a.rest a.after)))
+    (need (eqb n.0 1) BadSheet p (bind (f n.1 (p + count_bytes)) λ a. good (got (some a.value) a.rest a.after)))
 
 -- 15 and 16 stand at the list's count
 unfoldable pub fill_list : {A : Type 0} → Bool → ℕ → (List ℕ → ℕ → Res (Got A)) → List ℕ → ℕ → Res (Got (List A))
 fill_list e m f w p =
     bind (read_count w p) λ n.
-    need (e || leb 1 n.0) no_item p (need (leb n.0 m) too_many_items p (times f n.0 n.1 (p + count_bytes)))
+    need (e || leb 1 n.0) NoItem p (need (leb n.0 m) TooManyItems p (times f n.0 n.1 (p + count_bytes)))
 
 unfoldable mutual
   pub fill : (i : Item) → List ℕ → ℕ → Res (Got (Value i))

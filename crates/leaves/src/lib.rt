@@ -7,14 +7,15 @@ ghost use Rattle.contents.specs.Scan.{checked_at, content_at};
 ghost use Rattle.layouts.specs.Scan.{leaf_at};
 ghost use Rattle.primitives.specs.Primitive.{leaf_of, known_of};
 
-use contents::Checked;
-use heads::Seen;
+use heads::Span;
 use integers::Allowed;
 use primitives::{Primitive, Word};
-use terms::{MAY_BE_EMPTY, NEVER_EMPTY};
+use terms::{MAY_BE_EMPTY, NEVER_EMPTY, Refusal};
 
 // A value by the rule of its primitive item.
-pub fn rule(s: &[u8], p: Primitive, at: usize, a: usize, z: usize) -> Checked
+// Kept: the rules take different arguments; as closures they would be named twice.
+#[tactic(auto, using(crate::specs::Laws::primitive_rule))]
+pub fn rule(s: &[u8], p: Primitive, at: usize, a: usize, z: usize) -> Result<(), Refusal>
     ensures { result ≡ checked_at (rule_of (leaf_of p).holds) s.now at a z }
 {
     match p {
@@ -37,7 +38,7 @@ pub fn rule(s: &[u8], p: Primitive, at: usize, a: usize, z: usize) -> Checked
 }
 
 // A content: what it must begin with, as a bit string alone does, then its value's rule.
-fn content(s: &[u8], p: Primitive, at: usize, a: usize, z: usize) -> Checked
+fn content(s: &[u8], p: Primitive, at: usize, a: usize, z: usize) -> Result<(), Refusal>
     ensures { result ≡ content_at (leaf_of p).front (rule_of (leaf_of p).holds) s.now at a z }
 {
     if hiding::hidden_of(p) == 0 {
@@ -47,18 +48,15 @@ fn content(s: &[u8], p: Primitive, at: usize, a: usize, z: usize) -> Checked
 }
 
 // A primitive item: where its value lies, or the refusal of its head or its content.
-pub fn leaf(s: &[u8], p: Primitive, at: usize, end: usize) -> Seen
+pub fn leaf(s: &[u8], p: Primitive, at: usize, end: usize) -> Result<Span, Refusal>
     ensures { result ≡ leaf_at (leaf_of p) s.now at end }
 {
-    let h = items::head(s, primitives::tag_of(p), at, end);
-    let Seen::Item { start: a, end: z } = h else {
-        return h;
-    };
+    let Span { start: a, end: z } = items::head(s, primitives::tag_of(p), at, end)?;
     answers::judged(content(s, p, at, a, z), a + hiding::hidden_of(p), z)
 }
 
 // A member whose content is known.
-pub fn known(s: &[u8], w: Word, at: usize, end: usize) -> Seen
+pub fn known(s: &[u8], w: Word, at: usize, end: usize) -> Result<Span, Refusal>
     ensures { result ≡ leaf_at (only (known_of w)) s.now at end }
 {
     leaf(s, primitives::known_as(w), at, end)

@@ -7,6 +7,7 @@ ghost use Rattle.layouts.specs.Places.{slot, under as numbersUnder};
 use terms::Field;
 
 // What stands under a name.
+// Kept: the flag and the numbers each stand in the table, and `under` says all four of any table (clauses `there_value`, `result_value`).
 #[derive(Clone, Copy)]
 pub struct Place {
     pub there: bool,
@@ -19,13 +20,11 @@ pub struct Place {
 pub fn number_at(places: &[usize], n: usize) -> usize
     ensures { result ≡ get_or places.now n 0 }
 {
-    if n < places.len() {
-        return places[n];
-    }
-    0
+    places.get(n).copied().unwrap_or(0)
 }
 
 // What stands under a name.
+#[tactic(auto, unfolding(layouts::specs::Places::under))]
 pub fn under(places: &[usize], f: Field) -> Place
     ensures there_value { result.there ≡ not (eqb (get_or places.now (slot f) 0) 0) }
     ensures result_value { result.start ∷ result.length ∷ result.items ∷ [] ≡ drop 1 (numbersUnder f places.now) }

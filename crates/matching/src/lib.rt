@@ -6,22 +6,17 @@ ghost use Rattle.std.specs.Prelude.{◌≡◌};
 ghost use Rattle.records.specs.Handing.{layout_of, match_in, match_answer, handed_out, told_part};
 ghost use Rattle.records.specs.Part.{PartOf};
 
-use layouts::Outcome;
 use records::{Part, Record};
 pub use searches::{find_under, is_kind_1};
-use terms::LARGEST_RECORD;
+use terms::{LARGEST_RECORD, Refusal};
 
 // Where the first entry lies that is the given bytes, or why there is none.
-pub fn find(s: &[u8], x: Record, given: &[u8]) -> Part
+pub fn find(s: &[u8], x: Record, given: &[u8]) -> Result<Option<Part>, Refusal>
     ensures { told_part result ≡ match_answer (layout_of x) given.now s.now }
 {
     let reading = readers::read(s, structures::row_of(x), LARGEST_RECORD, 0);
-    let outcome = reading.outcome;
-    let places = reading.places;
-    match outcome {
-        Outcome::Length(_) => find_under(s, &places, given),
-        Outcome::Refused(number, place) => Part::Refused(number, place),
-    }
+    reading.outcome?;
+    Ok(find_under(s, &reading.places, given))
 }
 
 // The first entry that is the given bytes, as a part of the record; where there is none, no bytes, at the record's start.

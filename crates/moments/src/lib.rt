@@ -6,7 +6,7 @@ ghost use Rattle.contents.specs.Time.{not_later, moment_of, moment_at};
 ghost use Rattle.moments.specs.Moment.{moment_in};
 
 // A moment, by the number that its fourteen digits make.
-#[derive(Clone, Copy)]
+#[derive(Clone, Copy, PartialEq, Eq, PartialOrd, Ord, Debug)]
 pub struct Moment {
     number: u64,
 }
@@ -28,8 +28,9 @@ pub fn of_finding(n: u64) -> Moment
 }
 
 // Whether a moment is not later than another.
+#[tactic(auto, unfolding(contents::specs::Time::not_later))]
 pub fn is_not_later(a: Moment, b: Moment) -> bool
     ensures { result ≡ not_later (moment_in a) (moment_in b) }
 {
-    a.number <= b.number
+    a <= b
 }

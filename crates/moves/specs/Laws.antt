@@ -423,9 +423,12 @@ module _ (from to : Side) (i : Item) (m k n : ℕ) (s : List ℕ) (p e : ℕ) (d
   unfolding list_move move_many pick wrote_body advance put
   list_stop b h j u = rw (fewer h, ← j, u)
 
-  pub list_over : m ≤ k → (p, k, o, d) ≡ wrote_body (list_move from to i m k n s p e) d o
+  pub list_over : m ≤ k → k ≤ m → (p, m, o, d) ≡ wrote_body (list_move from to i m k n s p e) d o
   unfolding list_move move_many wrote_body advance put
-  list_over h = let z : m - k ≡ 0 = omega arith in rw z
+  list_over h l =
+      let z : m - k ≡ 0 = omega arith in
+      let y : m ≡ k = omega arith in
+      rw z (ap (λ (j : ℕ). (p, j, o, d)) y)
 
 -- ---- an item that fits
 

@@ -12,9 +12,9 @@ ghost use Rattle.moves.specs.Walk.{bare, inside, held_move, member_move, list_mo
 ghost use Rattle.moves.specs.Notes.{note_by, note_of, notes, notes_all, inside_notes, held_notes, front_notes, member_notes, list_notes, Ready};
 
 use pieces::Moved;
-use rows::{MEMBERS, Member};
+use rows::Member;
 use sides::Side;
-use sources::Opened;
+use sources::{Opened, Source};
 use structures::{Build, Row, Structure};
 use tags::Tag;
 
@@ -29,20 +29,30 @@ struct Spot {
     slot: usize,
 }
 
+impl Spot {
+    // Where what follows a piece starts, of which nothing is noted.
+    fn past(self, m: Moved) -> Spot
+        ensures { (result.at ≡ m.next) × (result.pos ≡ m.to) × (result.slot ≡ self.slot) }
+    {
+        Spot {
+            at: m.next,
+            pos: m.to,
+            slot: self.slot,
+        }
+    }
+}
+
 // Where what follows an item's content starts, and the number of a list's items.
 #[derive(Clone, Copy)]
 struct Body {
-    at: usize,
+    next: Spot,
     items: usize,
-    pos: usize,
-    slot: usize,
 }
 
 // An item up to its encloser's end, stored from the start of a destination if it has at most `most` bytes and there is room for them; else
 // its bytes are counted alone.
 pub fn item(
-    s: &[u8],
-    from: Side,
+    source: Source<'_>,
     to: Side,
     x: Structure,
     at: usize,
@@ -50,30 +60,22 @@ pub fn item(
     most: usize,
     dst: &mut [u8],
 ) -> Moved
-    ensures { (result.next, result.to, dst.new) ≡ wrote_within most (move_item from to (layout_of x) s.now at end) dst.old }
+    ensures { (result.next, result.to, dst.new) ≡ wrote_within most (move_item source.entry.side to (layout_of x) source.entry.bytes.now at end) dst.old }
 {
     let mut sizes = [0usize; SLOTS];
-    let mut none = [0u8; 0];
     let first = Spot {
         at,
         pos: 0,
         slot: 0,
     };
-    let n = noted(s, from, to, x, first, end, &mut none, &mut sizes, false);
-    let size = n.pos;
-    if most < size {
+    let n = noted(source, to, x, first, end, &mut [0u8; 0], &mut sizes, false);
+    if most < n.pos || dst.len() < n.pos {
         return Moved {
             next: n.at,
-            to: size,
+            to: n.pos,
         };
     }
-    if dst.len() < size {
-        return Moved {
-            next: n.at,
-            to: size,
-        };
-    }
-    let m = noted(s, from, to, x, first, end, dst, &mut sizes, true);
+    let m = noted(source, to, x, first, end, dst, &mut sizes, true);
     Moved {
         next: m.at,
         to: m.pos,
@@ -94,10 +96,7 @@ fn is_bare(to: Side, listed: bool) -> bool
 fn is_noted(known: bool, slot: usize, size: usize) -> bool
     ensures { result ≡ (known && ltb slot size) }
 {
-    if known {
-        return slot < size;
-    }
-    false
+    known && slot < size
 }
 
 // What is noted of an item that was measured: in a record its bytes, in a sheet its items.
@@ -114,10 +113,7 @@ fn note_of(to: Side, items: usize, n: usize) -> usize
 fn note_at(sizes: &[usize], slot: usize) -> usize
     ensures { result ≡ get_or sizes.now slot 0 }
 {
-    if slot < sizes.len() {
-        return sizes[slot];
-    }
-    0
+    sizes.get(slot).copied().unwrap_or(0)
 }
 
 // A note, where there is room for it.
@@ -130,10 +126,10 @@ fn note(sizes: &mut [usize], slot: usize, n: usize)
 }
 
 // An item, with a table of notes; `known`: the item's own notes stand in it already.
+// Kept: the destination, the table and `known` stay parameters of their own: a struct of two lent slices would be lent anew at each call, field by field.
 #[cycle(content_held_list_measured_member_noted_row_stored)]
 fn noted(
-    s: &[u8],
-    from: Side,
+    source: Source<'_>,
     to: Side,
     x: Structure,
     here: Spot,
@@ -142,37 +138,30 @@ fn noted(
     sizes: &mut [usize],
     known: bool,
 ) -> Spot
-    requires { Ready known (notes from to (layout_of x) s.now here.at end) sizes.old here.slot }
-    ensures dst_after { (result.at, result.pos, dst.new) ≡ wrote (move_item from to (layout_of x) s.now here.at end) dst.old here.pos }
-    ensures sizes_after { (result.slot, sizes.new) ≡ puts (notes from to (layout_of x) s.now here.at end) sizes.old here.slot }
+    requires { Ready known (notes source.side to (layout_of x) source.bytes.now here.at end) sizes.old here.slot }
+    ensures dst_after { (result.at, result.pos, dst.new) ≡ wrote (move_item source.entry.side to (layout_of x) source.entry.bytes.now here.at end) dst.old here.pos }
+    ensures sizes_after { (result.slot, sizes.new) ≡ puts (notes source.entry.side to (layout_of x) source.entry.bytes.now here.at end) sizes.old here.slot }
 {
-    let b = structures::build_of(x);
-    match b {
-        Build::Leaf(primitive) => {
-            let m = pieces::leaf(s, from, to, primitive, here.at, end, dst, here.pos);
-            Spot {
-                at: m.next,
-                pos: m.to,
-                slot: here.slot,
-            }
-        }
-        Build::Node(t, _) => held(s, from, to, x, t, false, here, end, dst, sizes, known),
+    match structures::build_of(x) {
+        Build::Leaf(primitive) => here.past(pieces::leaf(
+            source, to, primitive, here.at, end, dst, here.pos,
+        )),
+        Build::Node(t, _) => held(source, to, x, t, false, here, end, dst, sizes, known),
         Build::List {
             tag,
             empty: _,
             most: _,
             name: _,
             each: _,
-        } => held(s, from, to, x, tag, true, here, end, dst, sizes, known),
-        Build::Wrap(t, _) => held(s, from, to, x, t, false, here, end, dst, sizes, known),
+        } => held(source, to, x, tag, true, here, end, dst, sizes, known),
+        Build::Wrap(t, _) => held(source, to, x, t, false, here, end, dst, sizes, known),
     }
 }
 
 // An item that holds others: by its note, or measured first.
 #[cycle(content_held_list_measured_member_noted_row_stored)]
 fn held(
-    s: &[u8],
-    from: Side,
+    source: Source<'_>,
     to: Side,
     x: Structure,
     t: Tag,
@@ -183,33 +172,32 @@ fn held(
     sizes: &mut [usize],
     known: bool,
 ) -> Spot
-    requires { Ready known (held_notes from to (layout_of x) (tag_byte t) listed s.now here.at end) sizes.old here.slot }
-    ensures dst_after { (result.at, result.pos, dst.new) ≡ wrote (held_move from to (layout_of x) (tag_byte t) listed s.now here.at end) dst.old here.pos }
-    ensures sizes_after { (result.slot, sizes.new) ≡ puts (held_notes from to (layout_of x) (tag_byte t) listed s.now here.at end) sizes.old here.slot }
+    requires { Ready known (held_notes source.side to (layout_of x) (tag_byte t) listed source.bytes.now here.at end) sizes.old here.slot }
+    ensures dst_after { (result.at, result.pos, dst.new) ≡ wrote (held_move source.entry.side to (layout_of x) (tag_byte t) listed source.entry.bytes.now here.at end) dst.old here.pos }
+    ensures sizes_after { (result.slot, sizes.new) ≡ puts (held_notes source.entry.side to (layout_of x) (tag_byte t) listed source.entry.bytes.now here.at end) sizes.old here.slot }
 {
     let pos = here.pos;
     let slot = here.slot;
-    let h = sources::open(s, from, t, listed, here.at, end);
+    let h = source.open(t, listed, here.at, end);
     if is_bare(to, listed) {
-        let b = content(s, from, to, x, h, dst, pos, sizes, slot, known);
+        let b = content(source, to, x, h, dst, pos, sizes, slot, known);
         return Spot {
-            at: sources::after(from, h.end, b.at),
-            pos: b.pos,
-            slot: b.slot,
+            at: source.after(h.end, b.next.at),
+            pos: b.next.pos,
+            slot: b.next.slot,
         };
     }
     if is_noted(known, slot, sizes.len()) {
         let n = note_at(sizes, slot);
-        return stored(s, from, to, x, t, listed, h, dst, pos, n, sizes, slot);
+        return stored(source, to, x, t, listed, h, dst, pos, n, sizes, slot);
     }
-    measured(s, from, to, x, t, listed, h, dst, pos, sizes, slot)
+    measured(source, to, x, t, listed, h, dst, pos, sizes, slot)
 }
 
 // An item that holds others, by its note `n`: what stands before it, then what stands in it.
 #[cycle(content_held_list_measured_member_noted_row_stored)]
 fn stored(
-    s: &[u8],
-    from: Side,
+    source: Source<'_>,
     to: Side,
     x: Structure,
     t: Tag,
@@ -221,24 +209,23 @@ fn stored(
     sizes: &mut [usize],
     slot: usize,
 ) -> Spot
-    requires { (n ≡ note_of to (inside from to (layout_of x) s.now h.count h.start h.end)) × Ready true (front_notes from to (layout_of x) s.now h.count h.start h.end) sizes.old slot }
-    ensures dst_after { (result.at, result.pos, dst.new) ≡ wrote (closing from to (tag_byte t) listed h.end (inside from to (layout_of x) s.now h.count h.start h.end)) dst.old pos }
-    ensures sizes_after { (result.slot, sizes.new) ≡ puts (front_notes from to (layout_of x) s.now h.count h.start h.end) sizes.old slot }
+    requires { (n ≡ note_of to (inside source.side to (layout_of x) source.bytes.now h.count h.start h.end)) × Ready true (front_notes source.side to (layout_of x) source.bytes.now h.count h.start h.end) sizes.old slot }
+    ensures dst_after { (result.at, result.pos, dst.new) ≡ wrote (closing source.entry.side to (tag_byte t) listed h.end (inside source.entry.side to (layout_of x) source.entry.bytes.now h.count h.start h.end)) dst.old pos }
+    ensures sizes_after { (result.slot, sizes.new) ≡ puts (front_notes source.entry.side to (layout_of x) source.entry.bytes.now h.count h.start h.end) sizes.old slot }
 {
     let o = fronts::front(dst, pos, to, t, listed, n, n);
-    let b = content(s, from, to, x, h, dst, o, sizes, stores::add(slot, 1), true);
+    let b = content(source, to, x, h, dst, o, sizes, stores::add(slot, 1), true);
     Spot {
-        at: sources::after(from, h.end, b.at),
-        pos: b.pos,
-        slot: b.slot,
+        at: source.after(h.end, b.next.at),
+        pos: b.next.pos,
+        slot: b.next.slot,
     }
 }
 
 // An item that holds others: what stands in it is measured and noted, then all of it is stored.
 #[cycle(content_held_list_measured_member_noted_row_stored)]
 fn measured(
-    s: &[u8],
-    from: Side,
+    source: Source<'_>,
     to: Side,
     x: Structure,
     t: Tag,
@@ -250,13 +237,12 @@ fn measured(
     slot: usize,
 ) -> Spot
     requires { length sizes.old ≤ cap }
-    ensures dst_after { (result.at, result.pos, dst.new) ≡ wrote (closing from to (tag_byte t) listed h.end (inside from to (layout_of x) s.now h.count h.start h.end)) dst.old pos }
-    ensures sizes_after { (result.slot, sizes.new) ≡ puts (front_notes from to (layout_of x) s.now h.count h.start h.end) sizes.old slot }
+    ensures dst_after { (result.at, result.pos, dst.new) ≡ wrote (closing source.entry.side to (tag_byte t) listed h.end (inside source.entry.side to (layout_of x) source.entry.bytes.now h.count h.start h.end)) dst.old pos }
+    ensures sizes_after { (result.slot, sizes.new) ≡ puts (front_notes source.entry.side to (layout_of x) source.entry.bytes.now h.count h.start h.end) sizes.old slot }
 {
     let mut none = [0u8; 0];
     let b = content(
-        s,
-        from,
+        source,
         to,
         x,
         h,
@@ -266,24 +252,23 @@ fn measured(
         stores::add(slot, 1),
         false,
     );
-    let n = note_of(to, b.items, b.pos);
+    let n = note_of(to, b.items, b.next.pos);
     note(sizes, slot, n);
     if dst.len() <= pos {
         let o = fronts::front(dst, pos, to, t, listed, n, n);
         return Spot {
-            at: sources::after(from, h.end, b.at),
-            pos: stores::add(o, b.pos),
-            slot: b.slot,
+            at: source.after(h.end, b.next.at),
+            pos: stores::add(o, b.next.pos),
+            slot: b.next.slot,
         };
     }
-    stored(s, from, to, x, t, listed, h, dst, pos, n, sizes, slot)
+    stored(source, to, x, t, listed, h, dst, pos, n, sizes, slot)
 }
 
 // What stands in an item; nothing in a primitive one.
 #[cycle(content_held_list_measured_member_noted_row_stored)]
 fn content(
-    s: &[u8],
-    from: Side,
+    source: Source<'_>,
     to: Side,
     x: Structure,
     h: Opened,
@@ -293,32 +278,24 @@ fn content(
     slot: usize,
     known: bool,
 ) -> Body
-    requires { Ready known (inside_notes from to (layout_of x) s.now h.count h.start h.end) sizes.old slot }
-    ensures dst_after { (result.at, result.items, result.pos, dst.new) ≡ wrote_body (inside from to (layout_of x) s.now h.count h.start h.end) dst.old pos }
-    ensures sizes_after { (result.slot, sizes.new) ≡ puts (inside_notes from to (layout_of x) s.now h.count h.start h.end) sizes.old slot }
+    requires { Ready known (inside_notes source.side to (layout_of x) source.bytes.now h.count h.start h.end) sizes.old slot }
+    ensures dst_after { (result.next.at, result.items, result.next.pos, dst.new) ≡ wrote_body (inside source.entry.side to (layout_of x) source.entry.bytes.now h.count h.start h.end) dst.old pos }
+    ensures sizes_after { (result.next.slot, sizes.new) ≡ puts (inside_notes source.entry.side to (layout_of x) source.entry.bytes.now h.count h.start h.end) sizes.old slot }
 {
     let here = Spot {
         at: h.start,
         pos,
         slot,
     };
-    let b = structures::build_of(x);
-    match b {
+    match structures::build_of(x) {
         Build::Leaf(_) => Body {
-            at: h.start,
+            next: here,
             items: 0,
-            pos,
-            slot,
         },
-        Build::Node(_, members) => {
-            let m = row(s, from, to, members, here, h.end, dst, sizes, known);
-            Body {
-                at: m.at,
-                items: 0,
-                pos: m.pos,
-                slot: m.slot,
-            }
-        }
+        Build::Node(_, members) => Body {
+            next: row(source, to, members, here, h.end, dst, sizes, known),
+            items: 0,
+        },
         Build::List {
             tag: _,
             empty: _,
@@ -326,25 +303,19 @@ fn content(
             name: _,
             each,
         } => list(
-            s, from, to, each, most, h.count, here, h.end, dst, sizes, known,
+            source, to, each, most, h.count, here, h.end, dst, sizes, known,
         ),
-        Build::Wrap(_, y) => {
-            let m = noted(s, from, to, y, here, h.end, dst, sizes, known);
-            Body {
-                at: m.at,
-                items: 0,
-                pos: m.pos,
-                slot: m.slot,
-            }
-        }
+        Build::Wrap(_, y) => Body {
+            next: noted(source, to, y, here, h.end, dst, sizes, known),
+            items: 0,
+        },
     }
 }
 
 // The members of a row, one after another.
 #[cycle(content_held_list_measured_member_noted_row_stored)]
 fn row(
-    s: &[u8],
-    from: Side,
+    source: Source<'_>,
     to: Side,
     x: Row,
     first: Spot,
@@ -353,16 +324,14 @@ fn row(
     sizes: &mut [usize],
     known: bool,
 ) -> Spot
-    requires { Ready known (notes_all from to (row_of x) s.now first.at end) sizes.old first.slot }
-    ensures dst_after { (result.at, result.pos, dst.new) ≡ wrote (moves from to (row_of x) s.now first.at end) dst.old first.pos }
-    ensures sizes_after { (result.slot, sizes.new) ≡ puts (notes_all from to (row_of x) s.now first.at end) sizes.old first.slot }
+    requires { Ready known (notes_all source.side to (row_of x) source.bytes.now first.at end) sizes.old first.slot }
+    ensures dst_after { (result.at, result.pos, dst.new) ≡ wrote (moves source.entry.side to (row_of x) source.entry.bytes.now first.at end) dst.old first.pos }
+    ensures sizes_after { (result.slot, sizes.new) ≡ puts (notes_all source.entry.side to (row_of x) source.entry.bytes.now first.at end) sizes.old first.slot }
 {
     let members = rows::members_of(x);
     let mut here = first;
-    let mut k: usize = 0;
-    while k < MEMBERS {
-        here = member(s, from, to, members[k], here, end, dst, sizes, known);
-        k += 1;
+    for m in &members {
+        here = member(source, to, *m, here, end, dst, sizes, known);
     }
     here
 }
@@ -370,8 +339,7 @@ fn row(
 // A member of a row.
 #[cycle(content_held_list_measured_member_noted_row_stored)]
 fn member(
-    s: &[u8],
-    from: Side,
+    source: Source<'_>,
     to: Side,
     m: Member,
     here: Spot,
@@ -380,31 +348,21 @@ fn member(
     sizes: &mut [usize],
     known: bool,
 ) -> Spot
-    requires { Ready known (member_notes from to m s.now here.at end) sizes.old here.slot }
-    ensures dst_after { (result.at, result.pos, dst.new) ≡ wrote (member_move from to m s.now here.at end) dst.old here.pos }
-    ensures sizes_after { (result.slot, sizes.new) ≡ puts (member_notes from to m s.now here.at end) sizes.old here.slot }
+    requires { Ready known (member_notes source.side to m source.bytes.now here.at end) sizes.old here.slot }
+    ensures dst_after { (result.at, result.pos, dst.new) ≡ wrote (member_move source.entry.side to m source.entry.bytes.now here.at end) dst.old here.pos }
+    ensures sizes_after { (result.slot, sizes.new) ≡ puts (member_notes source.entry.side to m source.entry.bytes.now here.at end) sizes.old here.slot }
 {
     match m {
         Member::Blank => here,
-        Member::Known(w) => {
-            let v = known_pieces::known(s, from, to, w, here.at, end, dst, here.pos);
-            Spot {
-                at: v.next,
-                pos: v.to,
-                slot: here.slot,
-            }
-        }
-        Member::Leaf(_, primitive) => {
-            let v = pieces::leaf(s, from, to, primitive, here.at, end, dst, here.pos);
-            Spot {
-                at: v.next,
-                pos: v.to,
-                slot: here.slot,
-            }
-        }
-        Member::Part(_, x) => noted(s, from, to, x, here, end, dst, sizes, known),
+        Member::Known(w) => here.past(known_pieces::known(
+            source, to, w, here.at, end, dst, here.pos,
+        )),
+        Member::Leaf(_, primitive) => here.past(pieces::leaf(
+            source, to, primitive, here.at, end, dst, here.pos,
+        )),
+        Member::Part(_, x) => noted(source, to, x, here, end, dst, sizes, known),
         Member::Maybe(_, x) => {
-            let h = sources::present(s, from, structures::tag_of(x), here.at, end);
+            let h = source.present(structures::tag_of(x), here.at, end);
             let there = h.there;
             let o = fronts::mark(dst, here.pos, to, there);
             let inner = Spot {
@@ -413,18 +371,11 @@ fn member(
                 slot: here.slot,
             };
             if there {
-                return noted(s, from, to, x, inner, end, dst, sizes, known);
+                return noted(source, to, x, inner, end, dst, sizes, known);
             }
             inner
         }
-        Member::Flag(_) => {
-            let v = flag_pieces::flag(s, from, to, here.at, end, dst, here.pos);
-            Spot {
-                at: v.next,
-                pos: v.to,
-                slot: here.slot,
-            }
-        }
+        Member::Flag(_) => here.past(flag_pieces::flag(source, to, here.at, end, dst, here.pos)),
         Member::Choice {
             by: _,
             primitive,
@@ -433,16 +384,12 @@ fn member(
             first,
             second,
         } => {
-            let v = pieces::leaf(s, from, to, primitive, here.at, end, dst, here.pos);
-            let after = Spot {
-                at: v.next,
-                pos: v.to,
-                slot: here.slot,
-            };
-            if spans::is_content(s, from, primitive, content, here.at, end) {
-                return noted(s, from, to, first, after, end, dst, sizes, known);
+            let v = pieces::leaf(source, to, primitive, here.at, end, dst, here.pos);
+            let after = here.past(v);
+            if spans::is_content(source, primitive, content, here.at, end) {
+                return noted(source, to, first, after, end, dst, sizes, known);
             }
-            noted(s, from, to, second, after, end, dst, sizes, known)
+            noted(source, to, second, after, end, dst, sizes, known)
         }
     }
 }
@@ -450,8 +397,7 @@ fn member(
 // The items of a list, at most `most`, one after another, and their number.
 #[cycle(content_held_list_measured_member_noted_row_stored)]
 fn list(
-    s: &[u8],
-    from: Side,
+    source: Source<'_>,
     to: Side,
     x: Structure,
     most: usize,
@@ -462,28 +408,22 @@ fn list(
     sizes: &mut [usize],
     known: bool,
 ) -> Body
-    requires { Ready known (list_notes from to (layout_of x) most 0 count s.now first.at end) sizes.old first.slot }
-    ensures dst_after { (result.at, result.items, result.pos, dst.new) ≡ wrote_body (list_move from to (layout_of x) most 0 count s.now first.at end) dst.old first.pos }
-    ensures sizes_after { (result.slot, sizes.new) ≡ puts (list_notes from to (layout_of x) most 0 count s.now first.at end) sizes.old first.slot }
+    requires { Ready known (list_notes source.side to (layout_of x) most 0 count source.bytes.now first.at end) sizes.old first.slot }
+    ensures dst_after { (result.next.at, result.items, result.next.pos, dst.new) ≡ wrote_body (list_move source.entry.side to (layout_of x) most 0 count source.entry.bytes.now first.at end) dst.old first.pos }
+    ensures sizes_after { (result.next.slot, sizes.new) ≡ puts (list_notes source.entry.side to (layout_of x) most 0 count source.entry.bytes.now first.at end) sizes.old first.slot }
 {
     let mut here = first;
-    let mut k: usize = 0;
-    while k < most {
-        if !sources::more(from, k, count, here.at, end) {
+    for k in 0..most {
+        if !source.more(k, count, here.at, end) {
             return Body {
-                at: here.at,
+                next: here,
                 items: k,
-                pos: here.pos,
-                slot: here.slot,
             };
         }
-        here = noted(s, from, to, x, here, end, dst, sizes, known);
-        k += 1;
+        here = noted(source, to, x, here, end, dst, sizes, known);
     }
     Body {
-        at: here.at,
-        items: k,
-        pos: here.pos,
-        slot: here.slot,
+        next: here,
+        items: most,
     }
 }

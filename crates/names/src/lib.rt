@@ -7,6 +7,7 @@ ghost use Rattle.terms.specs.Names.{name_of};
 use terms::Field;
 
 // The field of a number; past the last one, the first.
+// Kept: the number is C's, and every number has an answer.
 pub fn name_of(number: u8) -> Field
     ensures { result ≡ name_of number }
 {

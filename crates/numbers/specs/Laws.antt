@@ -1,237 +1,152 @@
--- The loop over a content's digits, the cases of its number, and the bytes that are needed, with premises as code has them. Assumes nothing.
-use Rattle.std.specs.Prelude.{◌≡◌, ℕ, zero, suc, ◌+◌, ◌-◌, ◌*◌, ◌^◌, ◌≤◌, ◌<◌, Bool, ℤ, ◌-ℤ◌, eqb}
-use Rattle.std.proofs.Math.Path.{refl, sym}
-use Rattle.std.proofs.Common.{ap, ◌∙◌, add-one, mul-le-mul_right, le_trans, mul_assoc, le-mul_of_pos_right, drop_of_length-le, to_z, of_z, Fits, SFits, to_z-of_z}
-use native.Mathlib.Omega.{arith}
-use Rattle.std.proofs.Math.Nat.{pow-succ'}
-use Rattle.std.proofs.Math.Bool.{true, false, not}
-use mathlib.Core.List.{List, [], ◌∷◌}
-use Rattle.std.proofs.Math.ListN.{length, get_or, drop, length-drop}
-use Rattle.std.proofs.Math.Seq.{slice, drop-cons}
-use Rattle.std.proofs.Math.IntN.{pos, negsuc}
-use Rattle.std.specs.Int.{w64}
-use Rattle.std.proofs.Math.Facts.{to_z_pos}
-use borrow.Author.Tests.{lt-ltb, le-ltb, le-leb, lt-leb, not-true, not-false}
+-- A content's number by its eight bytes, and the bytes that are needed. Assumes nothing.
+use Rattle.std.specs.Prelude.{◌≡◌, refl, ℕ, suc, ◌+◌, ◌-◌, ◌^◌, ◌≤◌, ◌<◌, Bool, true, false, not, List, [], ◌∷◌, length, get_or, take, drop, replicate, zero, eqb, ltb, ℤ, pos, Option, Some, None}
+use Rattle.std.proofs.Common.{sym, ap, ◌∙◌, arith, to_z, of_z, take_all, drop_of_length-le, length-drop, append-nil, Fits, w8, lt-ltb, le-ltb, ltb→lt, nltb→le, le→leb}
+use Rattle.std.proofs.Math.Facts.{to_z_pos, to_z-neg}
+use Rattle.std.specs.Int.{w64, from_be_bytes}
+use borrow.Author.Tests.{not-true, not-false}
+use Rattle.std.proofs.Math.Option.{some, none}
 use Rattle.terms.specs.Answer.{pick}
 use Rattle.terms.specs.Laws.Answer.{never, test, is_true, is_false, pick_yes, pick_no}
 use Rattle.terms.specs.Digits.{number_from, number}
-use Rattle.terms.specs.Laws.Digits.{pow_pos}
-use Rattle.contents.specs.Integer.{sign, shortest, well_formed, turned, value, shrink}
-use Rattle.numbers.specs.Number.{digit_of, turned_if, number_of, number_at}
-use Rattle.numbers.specs.declared.Number.{Number}
-use Rattle.numbers.specs.declared.Number.TheVariants.{Value, Bad}
+use Rattle.contents.specs.Integer.{sign, shortest, well_formed, turned, value, shrink, stretch, unstretch, sign_of}
+use Rattle.contents.proofs.Laws.Integer.{stretch-there, value-shrink}
+use Rattle.std.proofs.Math.ListN.{length-replicate}
+use borrow.Rule.Slice.PartMut.{put_mid}
+use Rattle.numbers.specs.Number.{number_of}
 
--- ---- the loop
+-- ---- eight bytes
 
--- a digit more
-turned-drop : (neg : Bool) (c : List ℕ) (m i : ℕ) → i < length c → number_from 256 m (turned_if neg (drop i c)) ≡ number_from 256 (m * 256 + digit_of neg (get_or c i 0)) (turned_if neg (drop (i + 1) c))
-unfolding number_from turned
-turned-drop true c m i h = rw (add-one, drop-cons c i 0)
-turned-drop false c m i h = rw (add-one, drop-cons c i 0)
+-- bytes and the same with every bit turned
+together : (a b c d e f g h a₁ b₁ c₁ d₁ e₁ f₁ g₁ h₁ : ℕ) → a + a₁ ≡ 255 → b + b₁ ≡ 255 → c + c₁ ≡ 255 → d + d₁ ≡ 255 → e + e₁ ≡ 255 → f + f₁ ≡ 255 → g + g₁ ≡ 255 → h + h₁ ≡ 255
+    → from_be_bytes w64 (a ∷ b ∷ c ∷ d ∷ e ∷ f ∷ g ∷ h ∷ []) + suc (number 256 (a₁ ∷ b₁ ∷ c₁ ∷ d₁ ∷ e₁ ∷ f₁ ∷ g₁ ∷ h₁ ∷ [])) ≡ 2 ^ 64
+unfolding number_from
+together a b c d e f g h a₁ b₁ c₁ d₁ e₁ f₁ g₁ h₁ pa pb pc pd pe pf pg ph = omega arith
 
--- no digit more
-no_digits : (neg : Bool) (c : List ℕ) (m i : ℕ) → length c ≤ i → number_from 256 m (turned_if neg (drop i c)) ≡ m
-unfolding number_from turned
-no_digits true c m i h = rw (drop_of_length-le c {i = i} h)
-no_digits false c m i h = rw (drop_of_length-le c {i = i} h)
+upper : (b c d e f g h a₁ b₁ c₁ d₁ e₁ f₁ g₁ h₁ : ℕ) → a₁ < 128 → b + b₁ ≡ 255 → c + c₁ ≡ 255 → d + d₁ ≡ 255 → e + e₁ ≡ 255 → f + f₁ ≡ 255 → g + g₁ ≡ 255 → h + h₁ ≡ 255
+    → suc (number 256 (a₁ ∷ b₁ ∷ c₁ ∷ d₁ ∷ e₁ ∷ f₁ ∷ g₁ ∷ h₁ ∷ [])) ≤ 2 ^ 63
+unfolding number_from
+upper b c d e f g h a₁ b₁ c₁ d₁ e₁ f₁ g₁ h₁ l pb pc pd pe pf pg ph = omega arith
 
--- after `i` digits the number is `m`: the rest leads to the whole, and there is room for the digits to come
-pub record Going (neg : Bool) (c : List ℕ) (m i : ℕ) : Type 0 where
-  pub few : length c ≤ 8
-  pub within : i ≤ length c
-  pub rest : number_from 256 m (turned_if neg (drop i c)) ≡ number 256 (turned_if neg c)
-  pub room : (m + 1) * 256 ^ (8 - i) ≤ 2 ^ 63
+sub_from : (x y z : ℕ) → x + y ≡ z → x ≡ z - y
+sub_from x y z h = omega arith
 
-bound : (m k : ℕ) → (m + 1) * 256 ^ k ≤ 2 ^ 63 → m < 2 ^ 63
-bound m k h = omega (arith, le-mul_of_pos_right (m + 1) (pow_pos {base = 256} (omega arith) k))
+-- eight bytes read as an integer of the machine
+module _ (a b c d e f g h : ℕ) (b₁ : b < 256) (c₁ : c < 256) (d₁ : d < 256) (e₁ : e < 256) (f₁ : f < 256) (g₁ : g < 256) (h₁ : h < 256) where
+  low_bytes : a < 128 → to_z w64 (from_be_bytes w64 (a ∷ b ∷ c ∷ d ∷ e ∷ f ∷ g ∷ h ∷ [])) ≡ value (a ∷ b ∷ c ∷ d ∷ e ∷ f ∷ g ∷ h ∷ [])
+  unfolding value pick number_from
+  low_bytes l = rw (lt-ltb a 128 l) (to_z_pos w64 (omega arith) ∙ ap pos (omega arith))
 
--- one more digit takes one power of 256 from the room
-less_room : (m d i : ℕ) → i < 8 → d < 256 → (m * 256 + d + 1) * 256 ^ (8 - (i + 1)) ≤ (m + 1) * 256 ^ (8 - i)
-less_room m d i h l =
-    let e : 8 - i ≡ suc (8 - (i + 1)) = omega arith in
-    let j : m * 256 + d + 1 ≤ (m + 1) * 256 = omega arith in
-    rw (e, pow-succ', ← mul_assoc) (mul-le-mul_right (256 ^ (8 - (i + 1))) j)
+  high_bytes : 128 ≤ a → a < 256 → to_z w64 (from_be_bytes w64 (a ∷ b ∷ c ∷ d ∷ e ∷ f ∷ g ∷ h ∷ [])) ≡ value (a ∷ b ∷ c ∷ d ∷ e ∷ f ∷ g ∷ h ∷ [])
+  unfolding value pick number_from turned
+  high_bytes l m =
+      let k : ℕ = number 256 (turned (a ∷ b ∷ c ∷ d ∷ e ∷ f ∷ g ∷ h ∷ [])) in
+      let s : from_be_bytes w64 (a ∷ b ∷ c ∷ d ∷ e ∷ f ∷ g ∷ h ∷ []) + suc k ≡ 2 ^ 64 =
+      together a b c d e f g h (255 - a) (255 - b) (255 - c) (255 - d) (255 - e) (255 - f) (255 - g) (255 - h)
+      (omega arith) (omega arith) (omega arith) (omega arith) (omega arith) (omega arith) (omega arith) (omega arith)
+      in
+      let q : suc k ≤ 2 ^ 63 = upper b c d e f g h (255 - a) (255 - b) (255 - c) (255 - d) (255 - e) (255 - f) (255 - g) (255 - h) (omega arith) (omega arith) (omega arith) (omega arith) (omega arith) (omega arith) (omega arith) (omega arith) in
+      rw (le-ltb a 128 l) (ap (to_z w64) (sub_from _ (suc k) (2 ^ 64) s) ∙ to_z-neg w64 k q)
 
-module _ {neg : Bool} {c : List ℕ} where
-  pub starts : {m : ℕ} → 0 < length c → length c ≤ 8 → m ≡ digit_of neg (get_or c 0 0) → m < 128 → Going neg c m 1
-  starts {m} h f e l = record {
-    few = f;
-    within = omega arith;
-    rest = sym (turned-drop neg c 0 0 h ∙ ap (λ (k : ℕ). number_from 256 k (turned_if neg (drop 1 c))) (let z : 0 * 256 + digit_of neg (get_or c 0 0) ≡ m = omega arith in z));
-    room = omega arith;
-  }
+pub be_value : (x : List ℕ) → length x ≡ 8 → ((i : ℕ) → get_or x i 0 < 256) → to_z w64 (from_be_bytes w64 x) ≡ value x
+be_value (a ∷ b ∷ c ∷ d ∷ e ∷ f ∷ g ∷ h ∷ []) n l =
+    test (ltb a 128)
+    (λ t. low_bytes a b c d e f g h (l 1) (l 2) (l 3) (l 4) (l 5) (l 6) (l 7) (ltb→lt a 128 t))
+    (λ t. high_bytes a b c d e f g h (l 1) (l 2) (l 3) (l 4) (l 5) (l 6) (l 7) (nltb→le a 128 t) (l 0))
+be_value [] n l = absurd (omega arith)
+be_value (a ∷ []) n l = absurd (omega arith)
+be_value (a ∷ b ∷ []) n l = absurd (omega arith)
+be_value (a ∷ b ∷ c ∷ []) n l = absurd (omega arith)
+be_value (a ∷ b ∷ c ∷ d ∷ []) n l = absurd (omega arith)
+be_value (a ∷ b ∷ c ∷ d ∷ e ∷ []) n l = absurd (omega arith)
+be_value (a ∷ b ∷ c ∷ d ∷ e ∷ f ∷ []) n l = absurd (omega arith)
+be_value (a ∷ b ∷ c ∷ d ∷ e ∷ f ∷ g ∷ []) n l = absurd (omega arith)
+be_value (a ∷ b ∷ c ∷ d ∷ e ∷ f ∷ g ∷ h ∷ i ∷ x) n l = absurd (omega arith)
 
-  pub turns : {m i d : ℕ} → Going neg c m i → i < length c → d ≡ digit_of neg (get_or c i 0) → d < 256 → Going neg c (m * 256 + d) (i + 1)
-  turns {m} {i} {d} g h e l = record {
-    few = g.few;
-    within = omega arith;
-    rest = rw e (sym (turned-drop neg c m i h) ∙ g.rest);
-    room = le_trans (less_room m d i (omega (arith, g.few)) l) g.room;
-  }
+pub machine_value : (x : List ℕ) (z : ℤ) → z ≡ to_z w64 (from_be_bytes w64 x) → length x ≡ 8 → ((i : ℕ) → Fits w8 (get_or x i 0)) → z ≡ value x
+machine_value x z e h l = e ∙ be_value x h (λ i. (l i).fits)
 
-  -- the number so far is below 2 ^ 63, and one more digit leaves it there
-  pub small : {m i : ℕ} → Going neg c m i → m < 2 ^ 63
-  small {m} {i} g = bound m (8 - i) g.room
+-- a content that is shortest has a byte
+pub some_byte : (c : List ℕ) → shortest c ≡ true → 0 < length c
+unfolding shortest
+some_byte [] e = never (cc)
+some_byte (a ∷ c) e = omega arith
 
-  room_for_one : {m i : ℕ} → Going neg c m i → i < length c → m * 256 + 255 < 2 ^ 63
-  room_for_one {m} {i} g h = bound (m * 256 + 255) (8 - (i + 1)) (le_trans (less_room m 255 i (omega (arith, g.few)) (omega arith)) g.room)
+-- the sign before a content, up to eight bytes: the same number
+take_same : (s n m : ℕ) → n ≤ m → take n (replicate m s) ≡ replicate n s
+take_same s zero m h = refl
+take_same s (suc n) zero h = absurd (omega arith)
+take_same s (suc n) (suc m) h = ap (λ xs. s ∷ xs) (take_same s n m (omega arith))
 
-  pub fits_scaled : {m i : ℕ} → Going neg c m i → i < length c → Fits w64 (m * 256)
-  fits_scaled g h = record { fits = omega (arith, room_for_one g h) }
-
-  pub fits_more : {m i d : ℕ} → Going neg c m i → i < length c → d < 256 → Fits w64 (m * 256 + d)
-  fits_more g h l = record { fits = omega (arith, room_for_one g h) }
-
-  pub ends : {m i : ℕ} → Going neg c m i → length c ≤ i → m ≡ number 256 (turned_if neg c)
-  ends {m} {i} g h = sym (no_digits neg c m i h) ∙ g.rest
-
--- ---- the shortest form
-
-module _ (c : List ℕ) where
-  pub short_none : length c ≡ 0 → false ≡ shortest c
-  unfolding shortest
-  short_none h = go c h
+module _ (c : List ℕ) (e : shortest c ≡ true) (l : length c ≤ 8) where
+  value-stretch : value (stretch c) ≡ value c
+  unfolding unstretch
+  value-stretch = sym (value-shrink (stretch c)) ∙ ap value (back (eqb (length (stretch c)) 8) (stretch-there c (rw e tt) (le→leb (length c) 8 l)))
     where
-      go : (x : List ℕ) → length x ≡ 0 → false ≡ shortest x
-      go [] h = refl
-      go (a ∷ x) h = absurd (omega arith)
+      back : {x y : List ℕ} (t : Bool) → pick t (some x) none ≡ some y → x ≡ y
+      back {x} {y} t f =
+          test t
+          (λ h. let q : some x ≡ some y = sym (pick_yes t _ _ h) ∙ f in cc)
+          (λ h. let q : none ≡ some y = sym (pick_no t _ _ h) ∙ f in never (cc))
 
-  pub short_one : length c ≡ 1 → true ≡ shortest c
-  unfolding shortest
-  short_one h = go c h
+  filled : (s : ℕ) → s ≡ sign_of c → put_mid (8 - length c) (8 - (8 - length c)) (replicate 8 s) c ≡ stretch c
+  unfolding stretch
+  filled s f =
+      let all : drop (8 - (8 - length c)) (drop (8 - length c) (replicate 8 s)) ≡ [] =
+      drop_of_length-le (drop (8 - length c) (replicate 8 s)) {i = 8 - (8 - length c)} (omega (arith, length-drop (8 - length c) (replicate 8 s), length-replicate {A = ℕ} 8 s))
+      in
+      rw (take_same s (8 - length c) 8 (omega arith), all, append-nil, f)
+
+  pub filled_value : (s : ℕ) (x : List ℕ) (z : ℤ) → s ≡ sign (get_or c 0 0) → x ≡ c → z ≡ value (put_mid (8 - length c) (8 - (8 - length c)) (s ∷ s ∷ s ∷ s ∷ s ∷ s ∷ s ∷ s ∷ []) x) → z ≡ value c
+  filled_value s x z f g h = h ∙ rw (g, filled s (f ∙ sign_first c (some_byte c e))) value-stretch
     where
-      go : (x : List ℕ) → length x ≡ 1 → true ≡ shortest x
-      go [] h = absurd (omega arith)
-      go (a ∷ []) h = refl
-      go (a ∷ b ∷ x) h = absurd (omega arith)
-
-  short_two : (length c ≡ 0 → ⊥) → (length c ≡ 1 → ⊥) → shortest c ≡ not (eqb (get_or c 0 0) (sign (get_or c 1 0)))
-  unfolding shortest
-  short_two n m = go c n m
-    where
-      go : (x : List ℕ) → (length x ≡ 0 → ⊥) → (length x ≡ 1 → ⊥) → shortest x ≡ not (eqb (get_or x 0 0) (sign (get_or x 1 0)))
-      go [] n m = absurd (n refl)
-      go (a ∷ []) n m = absurd (m refl)
-      go (a ∷ b ∷ x) n m = refl
-
-  pub short_more : (t : Bool) → (length c ≡ 0 → ⊥) → (length c ≡ 1 → ⊥) → t ≡ not (eqb (get_or c 0 0) (sign (get_or c 1 0))) → t ≡ shortest c
-  short_more t n m e = e ∙ sym (short_two n m)
-
--- a byte against the sign of the next
-pub needed_low : (a b : ℕ) → b < 128 → not (eqb a 0) ≡ not (eqb a (sign b))
-unfolding sign pick
-needed_low a b h = rw (lt-ltb b 128 h)
-
-pub needed_high : (a b : ℕ) → 128 ≤ b → not (eqb a 255) ≡ not (eqb a (sign b))
-unfolding sign pick
-needed_high a b h = rw (le-ltb b 128 h)
-
--- ---- the cases of a content's number
-
-minus_one : (m : ℕ) → negsuc 0 -ℤ pos m ≡ negsuc m
-minus_one zero = refl
-minus_one (suc m) = ap negsuc (let e : suc (0 + m) ≡ suc m = omega arith in e)
-
-minus_one_less : (m : ℕ) → m < 2 ^ 63 → negsuc 0 -ℤ to_z w64 m ≡ negsuc m
-minus_one_less m b = rw (to_z_pos w64 b) (minus_one m)
-
-pub minus_one_fits : (m : ℕ) → m < 2 ^ 63 → SFits w64 (negsuc 0 -ℤ to_z w64 m)
-minus_one_fits m b = rw (minus_one_less m b) (record { sfits = b })
-
-module _ (c : List ℕ) where
-  pub number_shape : (t : Bool) → t ≡ shortest c → not t ≡ true → Bad ≡ number_of c
-  unfolding number_of well_formed
-  number_shape t e h = let f : shortest c ≡ false = sym e ∙ not-true t h in rw f (unfold pick in refl)
-
-  pub number_long : (t : Bool) → t ≡ shortest c → not t ≡ false → 8 < length c → Bad ≡ number_of c
-  unfolding number_of well_formed pick
-  number_long t e h l = let f : shortest c ≡ true = sym e ∙ not-false t h in rw (f, lt-leb (length c) 8 l)
-
-  pub number_good : (t : Bool) (z : ℤ) → t ≡ shortest c → not t ≡ false → length c ≤ 8 → z ≡ value c → Value z ≡ number_of c
-  unfolding number_of well_formed pick
-  number_good t z e h l v = let f : shortest c ≡ true = sym e ∙ not-false t h in rw (f, le-leb (length c) 8 l) (ap Value v)
-
-  -- a content that is shortest has a byte
-  pub some_byte : (t : Bool) → t ≡ shortest c → not t ≡ false → 0 < length c
-  unfolding shortest
-  some_byte t e h = go c (sym e ∙ not-false t h)
-    where
-      go : (x : List ℕ) → shortest x ≡ true → 0 < length x
-      go [] f = never (cc)
-      go (a ∷ x) f = omega arith
-
-  value_low : get_or c 0 0 < 128 → 0 < length c → value c ≡ pos (number 256 c)
-  unfolding value pick
-  value_low h k = go c h k
-    where
-      go : (x : List ℕ) → get_or x 0 0 < 128 → 0 < length x → value x ≡ pos (number 256 x)
-      go [] h k = absurd (omega arith)
-      go (a ∷ x) h k = rw (lt-ltb a 128 h)
-
-  value_high : 128 ≤ get_or c 0 0 → value c ≡ negsuc (number 256 (turned c))
-  unfolding value pick
-  value_high h = go c h
-    where
-      go : (x : List ℕ) → 128 ≤ get_or x 0 0 → value x ≡ negsuc (number 256 (turned x))
-      go [] h = absurd (omega arith)
-      go (a ∷ x) h = rw (le-ltb a 128 h)
-
-  pub value_positive : (m : ℕ) → 0 < length c → get_or c 0 0 < 128 → m ≡ number 256 c → m < 2 ^ 63 → to_z w64 m ≡ value c
-  value_positive m k b q f = to_z_pos w64 f ∙ ap pos q ∙ sym (value_low b k)
-
-  pub value-negative : (m : ℕ) → 128 ≤ get_or c 0 0 → m ≡ number 256 (turned c) → m < 2 ^ 63 → to_z w64 (of_z w64 (negsuc 0 -ℤ to_z w64 m)) ≡ value c
-  value-negative m b q f = rw (minus_one_less m f) (to_z-of_z {w = w64} {z = negsuc m} (record { sfits = f })) ∙ ap negsuc q ∙ sym (value_high b)
-
--- ---- what was read
-
-pub read_window : (s : List ℕ) (a z : ℕ) (w : List ℕ) (x : Number) → w ≡ slice a z s → x ≡ number_of w → x ≡ number_at s a z
-unfolding number_at
-read_window s a z w x e f = rw (← e) f
+      sign_first : (y : List ℕ) → 0 < length y → sign (get_or y 0 0) ≡ sign_of y
+      sign_first [] m = absurd (omega arith)
+      sign_first (a ∷ y) m = unfold sign_of in refl
 
 -- what a number that was read says of its content
-pub number_well : (c : List ℕ) (z : ℤ) → number_of c ≡ Value z → (well_formed c ≡ true) × (value c ≡ z)
+pub number_well : (c : List ℕ) (z : ℤ) → number_of c ≡ Some z → (well_formed c ≡ true) × (value c ≡ z)
 unfolding number_of
 number_well c z e =
     test (well_formed c)
-    (λ h. let q : Value (value c) ≡ Value z = sym (pick_yes (well_formed c) _ _ h) ∙ e in let v : value c ≡ z = cc in (is_true (well_formed c) h, v))
-    (λ h. let q : Bad ≡ Value z = sym (pick_no (well_formed c) _ _ h) ∙ e in never (cc))
+    (λ h. let q : Some (value c) ≡ Some z = sym (pick_yes (well_formed c) _ _ h) ∙ e in let v : value c ≡ z = cc in (is_true (well_formed c) h, v))
+    (λ h. let q : ◌≡◌ {A = Option ℤ} None (Some z) = sym (pick_no (well_formed c) _ _ h) ∙ e in never (cc))
 
-pub number_ill : (c : List ℕ) → number_of c ≡ Bad → well_formed c ≡ false
+pub number_ill : (c : List ℕ) → number_of c ≡ None → well_formed c ≡ false
 unfolding number_of
 number_ill c e =
     test (well_formed c)
-    (λ h. let q : Value (value c) ≡ Bad = sym (pick_yes (well_formed c) _ _ h) ∙ e in never (cc))
+    (λ h. let q : Some (value c) ≡ None = sym (pick_yes (well_formed c) _ _ h) ∙ e in never (cc))
     (λ h. is_false (well_formed c) h)
 
 -- ---- the bytes that are needed
 
-module _ (x : List ℕ) where
-  shrink-at : (i : ℕ) → i + 1 < length x → shrink (drop i x) ≡ pick (eqb (get_or x i 0) (sign (get_or x (i + 1) 0))) (shrink (drop (i + 1) x)) (drop i x)
-  unfolding shrink
-  shrink-at i h =
-      let a : drop i x ≡ get_or x i 0 ∷ drop (i + 1) x = rw (add-one) (drop-cons x i 0 (omega arith)) in
-      let b : drop (i + 1) x ≡ get_or x (i + 1) 0 ∷ drop (suc (i + 1)) x = drop-cons x (i + 1) 0 h in
-      rw (a, b)
-
-  -- what is left from here on is the whole answer
-  pub shrink_on : (i : ℕ) (t : Bool) → i + 1 < length x → shrink x ≡ shrink (drop i x) → t ≡ not (eqb (get_or x i 0) (sign (get_or x (i + 1) 0))) → t ≡ false → shrink x ≡ shrink (drop (i + 1) x)
-  unfolding pick
-  shrink_on i t h e f g = e ∙ shrink-at i h ∙ rw (not-false (eqb (get_or x i 0) (sign (get_or x (i + 1) 0))) (sym f ∙ g))
-
-  pub shrink_stops : (i : ℕ) (t : Bool) → i + 1 < length x → shrink x ≡ shrink (drop i x) → t ≡ not (eqb (get_or x i 0) (sign (get_or x (i + 1) 0))) → t ≡ true → length x - i ≡ length (shrink x)
-  unfolding pick
-  shrink_stops i t h e f g =
-      let q : shrink x ≡ drop i x = e ∙ shrink-at i h ∙ rw (not-true (eqb (get_or x i 0) (sign (get_or x (i + 1) 0))) (sym f ∙ g)) in
-      sym (rw q (length-drop i x))
-
-  pub shrink_end : (i : ℕ) → length x ≤ i + 1 → shrink x ≡ shrink (drop i x) → length x - i ≡ length (shrink x)
-  unfolding shrink
-  shrink_end i h e = sym (rw e (go (drop i x) (omega (arith, length-drop i x)) ∙ length-drop i x))
+module _ (x y : List ℕ) (e : shrink x ≡ shrink y) where
+  pub shrink_on : (t : Bool) → 2 ≤ length y → t ≡ not (eqb (get_or y 0 0) (sign (get_or y 1 0))) → t ≡ false → shrink x ≡ shrink (take (length y - 1) (drop 1 y))
+  unfolding shrink pick
+  shrink_on t l f g = e ∙ go y l (not-false _ (sym f ∙ g))
     where
-      go : (y : List ℕ) → length y ≤ 1 → length (shrink y) ≡ length y
-      go [] k = refl
-      go (a ∷ []) k = refl
-      go (a ∷ b ∷ y) k = absurd (omega arith)
+      go : (z : List ℕ) → 2 ≤ length z → eqb (get_or z 0 0) (sign (get_or z 1 0)) ≡ true → shrink z ≡ shrink (take (length z - 1) (drop 1 z))
+      go [] l h = absurd (omega arith)
+      go (a ∷ []) l h = absurd (omega arith)
+      go (a ∷ b ∷ z) l h = rw (h, take_all (length (a ∷ b ∷ z) - 1) (b ∷ z) (omega arith))
+
+  pub shrink_stops : (t : Bool) → 2 ≤ length y → t ≡ not (eqb (get_or y 0 0) (sign (get_or y 1 0))) → t ≡ true → length y ≡ length (shrink x)
+  unfolding shrink pick
+  shrink_stops t l f g = ap length (sym (e ∙ go y l (not-true _ (sym f ∙ g))))
+    where
+      go : (z : List ℕ) → 2 ≤ length z → eqb (get_or z 0 0) (sign (get_or z 1 0)) ≡ false → shrink z ≡ z
+      go [] l h = absurd (omega arith)
+      go (a ∷ []) l h = absurd (omega arith)
+      go (a ∷ b ∷ z) l h = rw h
+
+  pub shrink_end : length y < 2 → length y ≡ length (shrink x)
+  unfolding shrink
+  shrink_end l = ap length (sym (e ∙ go y l))
+    where
+      go : (z : List ℕ) → length z < 2 → shrink z ≡ z
+      go [] l = refl
+      go (a ∷ []) l = refl
+      go (a ∷ b ∷ z) l = absurd (omega arith)
 
 -- ---- signed numbers
 

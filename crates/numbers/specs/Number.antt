@@ -1,23 +1,13 @@
 -- The number of a content, by positions. Assumes nothing.
-use Rattle.std.specs.Prelude.{ℕ, ◌-◌, Bool, true, false, List}
+use Rattle.std.specs.Prelude.{ℕ, List, ℤ, Option, Some, None}
 use Rattle.std.proofs.Math.Seq.{slice}
 use Rattle.terms.specs.Answer.{pick}
-use Rattle.contents.specs.Integer.{well_formed, turned, value}
-use Rattle.numbers.specs.declared.Number.{Number}
-use Rattle.numbers.specs.declared.Number.TheVariants.{Value, Bad}
+use Rattle.contents.specs.Integer.{well_formed, value}
 
--- a byte, and a content, with every bit turned where the number is negative
-abbrev pub digit_of : Bool → ℕ → ℕ
-digit_of true b = 255 - b
-digit_of false b = b
+-- the number of a content, where it has one
+unfoldable pub number_of : List ℕ → Option ℤ
+number_of c = pick (well_formed c) (Some (value c)) None
 
-abbrev pub turned_if : Bool → List ℕ → List ℕ
-turned_if true c = turned c
-turned_if false c = c
-
--- the number of a content that has one
-unfoldable pub number_of : List ℕ → Number
-number_of c = pick (well_formed c) (Value (value c)) Bad
-
-unfoldable pub number_at : List ℕ → ℕ → ℕ → Number
+-- the number of the content from one position to another
+unfoldable pub number_at : List ℕ → ℕ → ℕ → Option ℤ
 number_at s a z = number_of (slice a z s)

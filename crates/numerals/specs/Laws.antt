@@ -1,52 +1,38 @@
--- A number's sign, magnitude and bytes, with premises as code has them. Assumes nothing.
-use Rattle.std.specs.Prelude.{◌≡◌, refl, ℕ, suc, ◌-◌, ◌/◌, ◌%◌, Bool, true, false, List, [], ◌∷◌, length, ℤ, pos, negsuc, ◌-ℤ◌}
-use Rattle.std.proofs.Common.{sym, ap, ◌∙◌, arith, div-one, SFits, to_z-of_z, le-ltb}
-use Rattle.std.specs.Int.Signed.{lt_z, mag}
-use Rattle.std.specs.Int.{w64}
-use Rattle.terms.specs.Laws.Answer.{never}
-use Rattle.terms.specs.Digits.{digits}
-use Rattle.contents.specs.Integer.{turned, eight, shrink, content_of}
-use Rattle.numbers.specs.Number.{digit_of, turned_if}
-use Rattle.numbers.specs.Laws.{bits}
-use Rattle.numerals.specs.Sign.{negative}
+-- A number's eight bytes as the machine writes them. Assumes nothing.
+use Rattle.std.specs.Prelude.{◌≡◌, refl, ℕ, zero, suc, ◌<◌, get_or, ℤ, T}
+use Rattle.std.proofs.Common.{sym, ap, ◌∙◌, arith, SFits, of_z, to_z, to_z-of_z, lt→ltb}
+use Rattle.terms.specs.Laws.Answer.{both}
+use Rattle.std.specs.Int.{w64, to_be_bytes, bytes_high_first, byte_at}
+use Rattle.std.proofs.Math.Facts.{Fits-of_z}
+use Rattle.std.proofs.lemmas.Nat.{from_be_bytes-to_be_bytes_8}
+use Rattle.terms.specs.Answer.{every}
+use Rattle.terms.specs.Digits.{is_byte}
+use Rattle.contents.specs.Integer.{value, eight}
+use Rattle.contents.proofs.Laws.Integer.{eight-value}
+use Rattle.numbers.specs.Laws.{be_value}
 
-under_zero : (z : ℤ) → lt_z z (pos 0) ≡ negative z
-under_zero (pos n) = le-ltb n 0 (omega arith)
-under_zero (negsuc n) = refl
+-- ---- each is a byte
 
-pub negative_test : (z : ℤ) → SFits w64 z → lt_z (bits z) (pos 0) ≡ negative z
-negative_test z f = rw (to_z-of_z f) (under_zero z)
+byte_small : (k n : ℕ) → byte_at k n < 256
+byte_small zero n = omega arith
+byte_small (suc k) n = omega arith
 
-flip : (z : ℤ) → negative z ≡ true → negsuc 0 -ℤ z ≡ pos (mag z)
-flip (pos n) e = never (cc)
-flip (negsuc n) e = simp (le-ltb (suc n) 1 (omega arith)) (ap pos (let q : suc n - 1 ≡ n = omega arith in q))
+small : (k n i : ℕ) → get_or (bytes_high_first k n) i 0 < 256
+small zero n i = omega arith
+small (suc k) n zero = byte_small k n
+small (suc k) n (suc i) = small k n i
 
-keep : (z : ℤ) → negative z ≡ false → z ≡ pos (mag z)
-keep (pos n) e = refl
-keep (negsuc n) e = never (cc)
+bytes : (k n : ℕ) → T (every is_byte (bytes_high_first k n))
+unfolding every
+bytes zero n = tt
+bytes (suc k) n = both (is_byte (byte_at k n)) _ (lt→ltb (byte_at k n) 256 (byte_small k n)) (bytes k n)
 
-module _ (z : ℤ) (f : SFits w64 z) where
-  pub flipped : lt_z (bits z) (pos 0) ≡ true → negsuc 0 -ℤ bits z ≡ pos (mag z)
-  flipped e = rw (to_z-of_z f) (flip z (sym (negative_test z f) ∙ e))
+-- ---- all eight
 
-  pub kept : lt_z (bits z) (pos 0) ≡ false → bits z ≡ pos (mag z)
-  kept e = to_z-of_z f ∙ keep z (sym (negative_test z f) ∙ e)
-
-pub eight-bytes : (neg : Bool) (m : ℕ) {xa xb xc xd xe xf xg xh : ℕ} → xa ≡ digit_of neg (m / 0x100_0000_0000_0000 % 256) → xb ≡ digit_of neg (m / 0x1_0000_0000_0000 % 256)
-    → xc ≡ digit_of neg (m / 0x100_0000_0000 % 256) → xd ≡ digit_of neg (m / 0x1_0000_0000 % 256) → xe ≡ digit_of neg (m / 0x100_0000 % 256) → xf ≡ digit_of neg (m / 0x1_0000 % 256)
-    → xg ≡ digit_of neg (m / 0x100 % 256) → xh ≡ digit_of neg (m % 256) → xa ∷ xb ∷ xc ∷ xd ∷ xe ∷ xf ∷ xg ∷ xh ∷ [] ≡ turned_if neg (digits 256 8 m)
-unfolding digits turned
-eight-bytes true m pa pb pc pd pe pf pg ph = simp (pa, pb, pc, pd, pe, pf, pg, ph, div-one)
-eight-bytes false m pa pb pc pd pe pf pg ph = simp (pa, pb, pc, pd, pe, pf, pg, ph, div-one)
-
-eight_by : (z : ℤ) → turned_if (negative z) (digits 256 8 (mag z)) ≡ eight z
-unfolding eight
-eight_by (pos n) = refl
-eight_by (negsuc n) = refl
-
-pub eight_of : (z : ℤ) (t : Bool) (m : ℕ) (x : List ℕ) → SFits w64 z → t ≡ negative (bits z) → m ≡ mag (bits z) → x ≡ turned_if t (digits 256 8 m) → x ≡ eight z
-eight_of z t m x h e f g = g ∙ rw (e, f, to_z-of_z h) (eight_by z)
-
-pub content-size : (z : ℤ) (x : List ℕ) (n : ℕ) → SFits w64 z → x ≡ eight (bits z) → n ≡ length (shrink x) → n ≡ length (content_of z)
-unfolding content_of
-content-size z x n h e f = f ∙ rw (e, to_z-of_z h)
+pub bytes_eight : (z : ℤ) → SFits w64 z → to_be_bytes w64 (of_z w64 z) ≡ eight z
+bytes_eight z f =
+    let n : ℕ = of_z w64 z in
+    let back : value (to_be_bytes w64 n) ≡ z =
+    sym (be_value (to_be_bytes w64 n) refl (small 8 n)) ∙ ap (to_z w64) (from_be_bytes-to_be_bytes_8 n (Fits-of_z f).fits) ∙ to_z-of_z f
+    in
+    sym (ap eight (sym back) ∙ (eight-value (to_be_bytes w64 n) (bytes 8 n) refl).0)

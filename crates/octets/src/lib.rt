@@ -8,52 +8,49 @@ ghost use Rattle.contents.specs.Content.{fine, ask as asked};
 ghost use Rattle.contents.specs.Leaves.{bit_string};
 ghost use Rattle.contents.specs.Scan.{checked, checked_at, behind_at};
 
-use contents::Checked;
-use terms::{BAD_BITS, BAD_BOOLEAN, NO_BYTES};
+use terms::{Reason, Refusal};
 
 // What a rule answers by one test: fine, or the refusal at the item's tag.
-pub fn ask(holds: bool, number: u8, at: usize) -> Checked
-    ensures { (a : ℕ) → result ≡ checked (asked holds number fine) at a }
+pub fn ask(holds: bool, reason: Reason, at: usize) -> Result<(), Refusal>
+    ensures { (a : ℕ) → result ≡ checked (asked holds reason fine) at a }
 {
-    if holds {
-        return Checked::Fine;
-    }
-    Checked::Wrong(number, at)
+    if holds { Ok(()) } else { Err(reason.at(at)) }
 }
 
 // What a rule answers by two tests, the first before the second.
-pub fn ask_two(first: bool, n: u8, second: bool, m: u8, at: usize) -> Checked
+pub fn ask_two(first: bool, n: Reason, second: bool, m: Reason, at: usize) -> Result<(), Refusal>
     ensures { (a : ℕ) → result ≡ checked (asked first n (asked second m fine)) at a }
 {
-    if first {
-        return ask(second, m, at);
-    }
-    Checked::Wrong(n, at)
+    ask(first, n, at)?;
+    ask(second, m, at)
 }
 
 // An OCTET STRING: 14 where a byte is needed.
-pub fn octets(s: &[u8], at: usize, a: usize, z: usize, empty: bool) -> Checked
+pub fn octets(s: &[u8], at: usize, a: usize, z: usize, empty: bool) -> Result<(), Refusal>
     ensures { result ≡ checked_at (octets_rule empty) s.now at a z }
 {
     let w = windows::window(s, a, z);
-    ask(windows::enough(0, w.len(), empty), NO_BYTES, at)
+    ask(windows::enough(0, w.len(), empty), Reason::NoBytes, at)
 }
 
 // A BOOLEAN: 13 unless it is FF alone.
-pub fn boolean(s: &[u8], at: usize, a: usize, z: usize) -> Checked
+pub fn boolean(s: &[u8], at: usize, a: usize, z: usize) -> Result<(), Refusal>
     ensures { result ≡ checked_at boolean_rule s.now at a z }
 {
     let w = windows::window(s, a, z);
-    ask(windows::is_same(w, b"\xFF"), BAD_BOOLEAN, at)
+    ask(windows::is_same(w, b"\xFF"), Reason::BadBoolean, at)
 }
 
 // A BIT STRING: 12 if it is empty or its first byte is not 00, then 14 if nothing comes after that byte.
-pub fn bits(s: &[u8], at: usize, a: usize, z: usize) -> Checked
+pub fn bits(s: &[u8], at: usize, a: usize, z: usize) -> Result<(), Refusal>
     ensures { result ≡ behind_at bit_string.front (octets_rule never_empty) s.now at a z }
 {
     let w = windows::window(s, a, z);
-    if w.len() == 0 {
-        return Checked::Wrong(BAD_BITS, at);
-    }
-    ask_two(w[0] == 0x00, BAD_BITS, 1 < w.len(), NO_BYTES, at)
+    ask_two(
+        w.starts_with(b"\x00"),
+        Reason::BadBits,
+        1 < w.len(),
+        Reason::NoBytes,
+        at,
+    )
 }

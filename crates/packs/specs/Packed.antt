@@ -1,6 +1,7 @@
 -- An answer as one number (03, 42). Assumes nothing.
-use Rattle.std.specs.Prelude.{ℕ, ◌+◌, ◌*◌, ◌%◌, List, [], ◌∷◌, ℤ, pos, negsuc}
-use Rattle.terms.specs.Answer.{Told, gives, refuses}
+use Rattle.std.specs.Prelude.{◌≡◌, ℕ, ◌+◌, ◌*◌, ◌%◌, List, [], ◌∷◌, ℤ, pos, negsuc, Option, Some, None, Ok, Err}
+use Rattle.terms.specs.Numbers.{reason_number, done, absent}
+use Rattle.terms.specs.Answer.{Answer, Told, gives, refuses}
 
 -- "the number in the lowest 8 bits, the place or length above it": its last 56 bits, which every place in what a machine holds has room in
 abbrev pub packed : ℕ → ℕ → ℕ
@@ -45,3 +46,9 @@ value_told (refuses n zs) = pos 0
 abbrev pub records_told : Told → ℕ
 records_told (gives n zs) = size (first zs)
 records_told (refuses n zs) = size (second zs)
+
+-- the number of what may be absent: above what is found stands a number that `P` allows for it
+abbrev pub IsPacked : {A : Type 0} → (A → ℕ → Type 0) → Answer (Option A) → ℕ → Type 0
+IsPacked P (Ok (Some a)) r = (n : ℕ) × P a n × (r ≡ packed done n)
+IsPacked P (Ok None) r = r ≡ packed absent 0
+IsPacked P (Err e) r = r ≡ packed (reason_number e.reason) e.place

@@ -2,15 +2,16 @@
 #![tactic(auto)]
 
 ghost use Rattle.std.specs.Prelude.{◌≡◌};
-ghost use Rattle.terms.specs.Numbers.{done, absent};
+ghost use Rattle.terms.specs.Numbers.{done, absent, reason_number};
 ghost use Rattle.layouts.specs.Whole.{told_outcome};
 ghost use Rattle.verdicts.specs.Verdict.{told_verdict};
-ghost use Rattle.packs.specs.Packed.{packed, packed_first};
+ghost use Rattle.packs.specs.Packed.{packed, packed_first, IsPacked};
 
-use layouts::Outcome;
-use verdicts::Verdict;
+use terms::Refusal;
+use verdicts::Judgement;
 
 // Beside the paper's numbers: done, and absent or no match.
+// Kept: they are bits of the number that C is handed.
 const DONE: u8 = 0;
 
 const ABSENT: u8 = 254;
@@ -18,25 +19,18 @@ const ABSENT: u8 = 254;
 // What stands above a number has 56 bits.
 const ABOVE: u64 = 72057594037927936;
 
-// A byte as a number.
-fn wide(b: u8) -> u64
-    ensures { result ≡ b }
-{
-    b as u64
-}
-
 // A number with what stands above it.
 pub fn pack(number: u8, above: u64) -> u64
     ensures { result ≡ packed number above }
 {
-    (above % ABOVE) * 256 + wide(number)
+    (above % ABOVE) * 256 + u64::from(number)
 }
 
 // A refusal: its number and its place.
-pub fn refused(number: u8, place: usize) -> u64
-    ensures { result ≡ packed number place }
+pub fn refused(refusal: Refusal) -> u64
+    ensures { result ≡ packed (reason_number refusal.reason) refusal.place }
 {
-    pack(number, place as u64)
+    pack(refusal.reason.number(), refusal.place as u64)
 }
 
 // What is done, with what stands above it.
@@ -53,22 +47,34 @@ pub fn absent() -> u64
     pack(ABSENT, 0)
 }
 
+// What may be absent: of what is found, what stands above is the number that `above` makes of it.
+pub fn found<A, F: FnOnce(A) -> u64>(x: Result<Option<A>, Refusal>, above: F) -> u64
+    requires { F.IsAlwaysCallable above }
+    ensures { IsPacked (F.post above) x result }
+{
+    match x {
+        Ok(Some(a)) => done(above(a)),
+        Ok(None) => absent(),
+        Err(refusal) => refused(refusal),
+    }
+}
+
 // How many bytes were read or written, or the refusal.
-pub fn outcome(o: Outcome) -> u64
+pub fn outcome(o: Result<usize, Refusal>) -> u64
     ensures { result ≡ packed_first (told_outcome o) }
 {
     match o {
-        Outcome::Length(n) => done(n as u64),
-        Outcome::Refused(number, place) => refused(number, place),
+        Ok(n) => done(n as u64),
+        Err(refusal) => refused(refusal),
     }
 }
 
 // A verdict: the notice above its number.
-pub fn verdict(v: Verdict) -> u64
+pub fn verdict(v: Result<Judgement, Refusal>) -> u64
     ensures { result ≡ packed_first (told_verdict v) }
 {
     match v {
-        Verdict::Judged(number, notice) => pack(number, notice as u64),
-        Verdict::Refused(number, place) => refused(number, place),
+        Ok(j) => pack(j.verdict.number(), u64::from(j.notice)),
+        Err(refusal) => refused(refusal),
     }
 }

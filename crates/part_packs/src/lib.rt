@@ -6,25 +6,18 @@ ghost use Rattle.records.specs.Handing.{told_part};
 ghost use Rattle.packs.specs.Packed.{packed_first, packed_second};
 
 use records::Part;
+use terms::Refusal;
 
 // Where a part begins.
-pub fn start(p: Part) -> u64
-    ensures { result ≡ packed_first (told_part p) }
+pub fn start(x: Result<Option<Part>, Refusal>) -> u64
+    ensures { result ≡ packed_first (told_part x) }
 {
-    match p {
-        Part::There { start, length: _ } => packs::done(start as u64),
-        Part::Absent => packs::absent(),
-        Part::Refused(number, place) => packs::refused(number, place),
-    }
+    packs::found(x, |p| p.start as u64)
 }
 
 // How long a part is.
-pub fn length(p: Part) -> u64
-    ensures { result ≡ packed_second (told_part p) }
+pub fn length(x: Result<Option<Part>, Refusal>) -> u64
+    ensures { result ≡ packed_second (told_part x) }
 {
-    match p {
-        Part::There { start: _, length } => packs::done(length as u64),
-        Part::Absent => packs::absent(),
-        Part::Refused(number, place) => packs::refused(number, place),
-    }
+    packs::found(x, |p| p.length as u64)
 }

@@ -1,10 +1,9 @@
 -- What is stored of each piece, a law for each case. Assumes nothing.
-use Rattle.std.specs.Prelude.{◌≡◌, refl, ℕ, ◌+◌, ◌-◌, ◌≤◌, ◌<◌, Bool, true, false, List, [], ◌∷◌, ◌++◌, length, get_or, replicate}
+use Rattle.std.specs.Prelude.{◌≡◌, refl, ℕ, ◌+◌, ◌≤◌, ◌<◌, Bool, true, false, List, [], ◌∷◌, ◌++◌, length, get_or, replicate}
 use Rattle.std.proofs.Common.{sym, ap, ◌∙◌, arith, length-append, lt-ltb, le-ltb}
 use Rattle.std.proofs.lemmas.List.{length-replicate}
 use Rattle.std.proofs.Math.Seq.{slice}
 use Rattle.terms.specs.Answer.{pick}
-use Rattle.terms.specs.Laws.Answer.{never}
 use Rattle.heads.specs.Head.{tlv}
 use Rattle.contents.specs.Integer.{sign, sign_of, stretch}
 use Rattle.contents.specs.Leaves as leaves
@@ -17,7 +16,7 @@ use Rattle.primitives.specs.declared.Primitive.{Primitive}
 use Rattle.primitives.specs.declared.Primitive.TheVariants as primitive
 use Rattle.primitives.specs.declared.Word.{Word}
 use Rattle.primitives.specs.declared.Word.TheVariants as word
-use Rattle.primitives.specs.Primitive.{leaf_of, known_of, is_number}
+use Rattle.primitives.specs.Primitive.{leaf_of, known_of}
 use Rattle.sides.specs.declared.Side.{Side}
 use Rattle.sides.specs.declared.Side.TheVariants as side
 use Rattle.sides.specs.Move.{span_at, value_at, flag_at, known_at, leaf_out, front, flag_out, known_out, move_leaf, move_known, move_flag}
@@ -27,57 +26,20 @@ use Rattle.pieces.specs.Piece.{extension, padding, wrote}
 
 -- ---- what stands before a value
 
-pub sign_none : (w : List ℕ) → length w ≡ 0 → 0 ≡ sign_of w
+pub sign_none : (w : List ℕ) → length w < 1 → 0 ≡ sign_of w
 unfolding sign_of
 sign_none [] h = refl
 sign_none (x ∷ w) h = absurd (omega arith)
 
-pub sign_low : (w : List ℕ) → (length w ≡ 0 → ⊥) → get_or w 0 0 < 128 → 0 ≡ sign_of w
+pub sign_low : (w : List ℕ) → get_or w 0 0 < 128 → 0 ≡ sign_of w
 unfolding sign_of sign pick
-sign_low [] h k = absurd (h refl)
-sign_low (x ∷ w) h k = rw (lt-ltb x 128 k)
+sign_low [] h = refl
+sign_low (x ∷ w) h = rw (lt-ltb x 128 h)
 
-pub sign_high : (w : List ℕ) → (length w ≡ 0 → ⊥) → 128 ≤ get_or w 0 0 → 255 ≡ sign_of w
+pub sign_high : (w : List ℕ) → 128 ≤ get_or w 0 0 → 255 ≡ sign_of w
 unfolding sign_of sign pick
-sign_high [] h k = absurd (h refl)
-sign_high (x ∷ w) h k = rw (le-ltb x 128 k)
-
--- what stands before a value in a content is zeros
-zeros : (p : Primitive) → replicate (length (leaf_of p).front) 0 ≡ (leaf_of p).front
-zeros primitive.Octets = refl
-zeros primitive.AnyOctets = refl
-zeros primitive.Bits = refl
-zeros primitive.Ia5 = refl
-zeros primitive.AnyIa5 = refl
-zeros primitive.AnyPrintable = refl
-zeros primitive.AnyUtf8 = refl
-zeros primitive.Identifier = refl
-zeros primitive.Time = refl
-zeros primitive.Integer = refl
-zeros primitive.ListKind = refl
-zeros primitive.Millimetres = refl
-zeros primitive.Critical = refl
-zeros primitive.HeaderName = refl
-zeros primitive.Version = refl
-
-module _ (to : Side) (p : Primitive) (v : List ℕ) where
-  pub padding_record : (n : ℕ) → to ≡ side.Record → n ≡ length (leaf_of p).front → replicate n 0 ≡ padding to (leaf_of p) v
-  padding_record n i j = rw (i, j) (zeros p)
-
-  module _ (t : Bool) (i : to ≡ side.Sheet) (j : t ≡ is_number (leaf_of p).holds) where
-    pub padding-number : (n f : ℕ) → t ≡ true → n ≡ 8 - length v → f ≡ sign_of v → replicate n f ≡ padding to (leaf_of p) v
-    padding-number n f k l m = rw i (go (leaf_of p).holds (sym j ∙ k))
-      where
-        go : (h : Holding) → is_number h ≡ true → replicate n f ≡ extension h v
-        go (leaves.bytes rule) q = never (cc)
-        go (leaves.number allowed) q = rw (l, m) refl
-
-    pub padding_none : t ≡ false → replicate 0 0 ≡ padding to (leaf_of p) v
-    padding_none k = rw i (go (leaf_of p).holds (sym j ∙ k))
-      where
-        go : (h : Holding) → is_number h ≡ false → replicate 0 0 ≡ extension h v
-        go (leaves.bytes rule) q = refl
-        go (leaves.number allowed) q = never (cc)
+sign_high [] h = absurd (omega arith)
+sign_high (x ∷ w) h = rw (le-ltb x 128 h)
 
 -- ---- a value
 

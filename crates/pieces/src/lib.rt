@@ -1,7 +1,7 @@
 // A primitive item, from a source to a destination.
 #![tactic(auto)]
 
-ghost use Rattle.std.specs.Prelude.{◌≡◌, ◌-◌, ◌≤◌, replicate};
+ghost use Rattle.std.specs.Prelude.{◌≡◌, ◌≤◌, replicate};
 ghost use Rattle.contents.specs.Integer.{sign_of};
 ghost use Rattle.primitives.specs.Primitive.{leaf_of};
 ghost use Rattle.sides.specs.Move.{leaf_out, move_leaf};
@@ -10,6 +10,10 @@ ghost use Rattle.pieces.specs.Piece.{padding, wrote};
 
 use primitives::Primitive;
 use sides::Side;
+use sources::Source;
+
+// How many bytes the section of an integer has.
+const INTEGER_BYTES: usize = 8;
 
 // Where what follows starts in the source, and in the destination.
 #[derive(Clone, Copy)]
@@ -29,23 +33,10 @@ struct Padding {
 fn sign_of(w: &[u8]) -> u8
     ensures { result ≡ sign_of w.now }
 {
-    if w.len() == 0 {
-        return 0;
+    match w {
+        [128..=255, ..] => 255,
+        _ => 0,
     }
-    if w[0] < 128 {
-        return 0;
-    }
-    255
-}
-
-// How many bytes are missing to eight.
-fn missing(n: usize) -> usize
-    ensures { (result ≡ 8 - n) × (result ≤ 8) }
-{
-    if n < 8 {
-        return 8 - n;
-    }
-    0
 }
 
 // What stands before a value in its content or its section: the 00 of a bit string, the sign of an integer.
@@ -57,15 +48,11 @@ fn padding_of(to: Side, p: Primitive, w: &[u8]) -> Padding
             byte: 0,
             times: hiding::hidden_of(p),
         },
-        Side::Sheet => {
-            if hiding::is_number(p) {
-                return Padding {
-                    byte: sign_of(w),
-                    times: missing(w.len()),
-                };
-            }
-            Padding { byte: 0, times: 0 }
-        }
+        Side::Sheet if hiding::is_number(p) => Padding {
+            byte: sign_of(w),
+            times: INTEGER_BYTES.saturating_sub(w.len()),
+        },
+        Side::Sheet => Padding { byte: 0, times: 0 },
     }
 }
 
@@ -81,9 +68,9 @@ pub fn value(dst: &mut [u8], pos: usize, to: Side, p: Primitive, w: &[u8]) -> us
 }
 
 // A primitive item from a source.
+// Kept: a struct of the lent destination and its position would be taken apart and built anew at each call.
 pub fn leaf(
-    s: &[u8],
-    from: Side,
+    source: Source<'_>,
     to: Side,
     p: Primitive,
     at: usize,
@@ -91,9 +78,15 @@ pub fn leaf(
     dst: &mut [u8],
     pos: usize,
 ) -> Moved
-    ensures { (result.next, result.to, dst.new) ≡ wrote (move_leaf from to (leaf_of p) s.now at end) dst.old pos }
+    ensures { (result.next, result.to, dst.new) ≡ wrote (move_leaf source.entry.side to (leaf_of p) source.entry.bytes.now at end) dst.old pos }
 {
-    let v = spans::value(s, from, p, at, end);
-    let o = value(dst, pos, to, p, windows::window(s, v.start, v.end));
+    let v = spans::value(source, p, at, end);
+    let o = value(
+        dst,
+        pos,
+        to,
+        p,
+        windows::window(source.bytes, v.start, v.end),
+    );
     Moved { next: v.end, to: o }
 }

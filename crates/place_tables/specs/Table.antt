@@ -1,6 +1,7 @@
 -- A record's table of places in a destination of numbers. Assumes nothing.
 use Rattle.std.specs.Prelude.{◌≡◌, ℕ, List, ◌++◌, length, drop, leb}
-use Rattle.terms.specs.Numbers.{done, no_room}
+use Rattle.terms.specs.Numbers.{done}
+use Rattle.terms.specs.declared.Reason.TheVariants.{NoRoom}
 use Rattle.terms.specs.Answer.{Res, good, fault, pick, Told, told_one, refusal}
 use Rattle.layouts.specs.Layout.{Members, Values}
 use Rattle.layouts.specs.Fields.{fields}
@@ -13,7 +14,7 @@ put_table p d = pick (leb (length p) (length d)) (p ++ drop (length p) d) d
 
 -- the length of an accepted record; 20 where the destination is too short, with the numbers that it has to have
 abbrev pub room_for : {A : Type 0} → Res A → ℕ → ℕ → Told
-room_for (good v) n k = pick (leb table_size k) (told_one done n) (refusal no_room table_size)
+room_for (good v) n k = pick (leb table_size k) (told_one done n) (refusal NoRoom table_size)
 room_for (fault n p) l k = refusal n p
 
 unfoldable pub table_answer : Members → List ℕ → List ℕ → Told

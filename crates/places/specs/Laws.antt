@@ -1,20 +1,11 @@
 -- The steps of noting a field. Assumes nothing.
 use Rattle.std.specs.Prelude.{◌≡◌, ℕ, ◌+◌, ◌-◌, ◌<◌, ◌≤◌, Bool, true, false, ◌&&◌, List, length, get_or, T, eqb, ltb}
-use Rattle.std.proofs.Common.{arith, ltb→lt, lt-ltb, le-ltb}
-use Rattle.std.proofs.Math.Bool.{and-true, and-false}
+use Rattle.std.proofs.Common.{arith, ltb→lt}
 use Rattle.terms.specs.declared.Field.{Field}
 use Rattle.terms.specs.Answer.{pick}
 use Rattle.terms.specs.Laws.Answer.{and_l, and_r}
-use Rattle.layouts.specs.Places.{wanted_at, wanted, slot}
+use Rattle.layouts.specs.Places.{wanted, slot}
 use Rattle.layouts.specs.Marks.{free, filled, noted}
-
-module _ (d : List ℕ) (n k : ℕ) (b : Bool) (f : b ≡ free d n) where
-  pub not_free : b ≡ false → false ≡ eqb k (wanted d) && free d n
-  not_free h = rw (← f, h, and-false (eqb k (wanted d)))
-
-  pub if_wanted : (x : ℕ) → b ≡ true → x ≡ get_or d wanted_at 0 → eqb k x ≡ eqb k (wanted d) && free d n
-  unfolding wanted
-  if_wanted x h e = rw (← f, h, ← e, and-true (eqb k x))
 
 module _ (f : Field) (k a z i : ℕ) (d : List ℕ) (n : ℕ) (b : Bool) (q : n ≡ slot f) (e : b ≡ eqb k (wanted d) && free d n) where
   pub noted-held : b ≡ false → d ≡ noted f k a z i d
@@ -32,11 +23,3 @@ takes_in d n k b j e g h =
     let t : T (eqb k (wanted d) && free d n) = rw (← e, g) tt in
     let l = ltb→lt (n + 3) (length d) (and_l (ltb (n + 3) (length d)) (eqb (get_or d n 0) 0) (and_r (eqb k (wanted d)) (free d n) t)) in
     omega arith
-
-pub free_no : (d : List ℕ) (n : ℕ) → length d ≤ n + 3 → false ≡ free d n
-unfolding free
-free_no d n h = rw (le-ltb (n + 3) (length d) h)
-
-pub free_zero : (d : List ℕ) (n : ℕ) → n + 3 < length d → eqb (get_or d n 0) 0 ≡ free d n
-unfolding free
-free_zero d n h = rw (lt-ltb (n + 3) (length d) h)

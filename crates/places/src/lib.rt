@@ -16,25 +16,14 @@ pub const WANTED_AT: usize = NUMBERS_EACH * NAMES;
 // The numbers of a table.
 pub const TABLE_SIZE: usize = WANTED_AT + 1;
 
-// How far it is from a start to an end; none if the end is before it.
-fn distance(start: usize, end: usize) -> usize
-    ensures { result ≡ end - start }
-{
-    if end < start {
-        return 0;
-    }
-    end - start
-}
-
 // Whether a name's four numbers, from a number on, are in the table and not taken.
+// Kept: `n` is what `slots` answers; a type of its own would stand in each clause as that number.
+#[tactic(auto, unfolding(layouts::specs::Marks::free))]
 fn is_free(places: &[usize], n: usize) -> bool
     requires { n < table_size }
     ensures { result ≡ free places.now n }
 {
-    if places.len() <= n + 3 {
-        return false;
-    }
-    places[n] == 0
+    n + 3 < places.len() && places[n] == 0
 }
 
 // Writes a name's four numbers.
@@ -59,14 +48,12 @@ pub fn blank(index: usize) -> [usize; TABLE_SIZE]
 }
 
 // Whether a field of an index is to be noted in four numbers: they are free, and it is wanted.
+#[tactic(auto, unfolding(layouts::specs::Places::wanted))]
 fn takes(places: &[usize], n: usize, index: usize) -> bool
     requires { n < table_size }
     ensures { result ≡ eqb index (wanted places.now) && free places.now n }
 {
-    if !is_free(places, n) {
-        return false;
-    }
-    index == lookups::number_at(places, WANTED_AT)
+    is_free(places, n) && index == lookups::number_at(places, WANTED_AT)
 }
 
 // Notes a field under its name, once, if its index is wanted and the table has room for it.
@@ -74,8 +61,7 @@ pub fn note(places: &mut [usize], f: Field, index: usize, start: usize, end: usi
     ensures { places.new ≡ noted f index start end items places.old }
 {
     let n = slots::slot_of(f);
-    if !takes(places, n, index) {
-        return;
+    if takes(places, n, index) {
+        fill(places, n, start, end.saturating_sub(start), items);
     }
-    fill(places, n, start, distance(start, end), items);
 }

@@ -6,9 +6,11 @@ use Rattle.std.proofs.Common.{sym, ap, ◌∙◌, subst, arith, le→leb}
 use Rattle.std.proofs.Math.Option.{none, some}
 use Rattle.std.proofs.lemmas.Bool.{lt-leb}
 use Rattle.std.specs.Borrow.{Bor}
+use Rattle.terms.specs.declared.Reason.{Reason}
 use Rattle.terms.specs.declared.Field.{Field}
 use Rattle.terms.specs.declared.Field.TheVariants.{SignedPart, SealInformation}
-use Rattle.terms.specs.Numbers.{largest_record, too_large, no_room, unreal_time, done, run_end}
+use Rattle.terms.specs.Numbers.{largest_record, done, run_end}
+use Rattle.terms.specs.declared.Reason.TheVariants.{TooLarge, NoRoom, UnrealTime}
 use Rattle.terms.specs.Answer.{Res, good, fault, Got, got, bind, need, every, answered, bit, Told, gives, told_one, told_two, told_none, refusal}
 use Rattle.terms.specs.Laws.Answer.{good_inj, and_r, bind_eq, need_eq}
 use Rattle.terms.specs.Digits.{is_byte}
@@ -37,7 +39,7 @@ use Rattle.records.specs.Laws.Handing.{Tells}
 use Rattle.records.specs.Laws.Handing as Handing
 use Rattle.runs.specs.Run.{run_of, Ran, whole, stopped, read_run, run_answer, Reader, at, made, here_at, top, one_more, step_after, step_answer, refusal_after}
 use Rattle.runs.proofs.Laws.Run as Runs
-use Rattle.verdicts.specs.Verdict.{Step, first_failing, Facts, facts_of, stamped, Rulebook, signature_rules, seal_rules, maker_out, judged, verdict, told_verdict}
+use Rattle.verdicts.specs.Verdict.{verdict_number, Step, first_failing, Facts, facts_of, stamped, Rulebook, signature_rules, seal_rules, maker_out, judged, verdict, told_verdict}
 use Rattle.verdicts.specs.Findings.{all_real}
 use Rattle.verdicts.proofs.Laws.Verdict.{FirstFailing, is_of_stamp, unstamped_steps, takes_notice}
 use Rattle.verdicts.proofs.Laws.Verdict as Verdict
@@ -134,12 +136,12 @@ module _ (r : Members) (k : Clear r) where
     count_is_the_list's f = Handing.told-first r w v e (fields_stand_there w v e) (is_among list_names f 0) _
 
   -- a refused record answers every question with its refusal
-  pub refused_is_told : (w : List ℕ) (n p : ℕ) → read_record r w ≡ fault n p → (f : Field) (i : ℕ) (given : List ℕ)
+  pub refused_is_told : (w : List ℕ) (n : Reason) (p : ℕ) → read_record r w ≡ fault n p → (f : Field) (i : ℕ) (given : List ℕ)
       → (field_answer r f i w ≡ refusal n p) × (match_answer r given w ≡ refusal n p) × (value_answer r f w ≡ refusal n p) × (critical_answer r f i w ≡ refusal n p) × (count_answer r f w ≡ refusal n p)
   refused_is_told w n p e f i given = Handing.refused_told r w n p e f i given
 
   -- a refusal is about the record or a field of it; where a record is accepted there is nothing
-  pub refused_is_about_something : (w : List ℕ) (n p : ℕ) → read_record r w ≡ fault n p → record_about largest_record r w ≡ Nothing → ⊥
+  pub refused_is_about_something : (w : List ℕ) (n : Reason) (p : ℕ) → read_record r w ≡ fault n p → record_about largest_record r w ≡ Nothing → ⊥
   refused_is_about_something w n p e = About.refused_about largest_record r w n p e
 
   pub accepted_is_about_nothing : (w : List ℕ) (v : Values r) → read_record r w ≡ good v → record_about largest_record r w ≡ Nothing
@@ -162,7 +164,7 @@ module _ (r : Members) (k : Clear r) where
     pub part_is_its_own_bytes : (v : Values r) → read_record r s.now ≡ good v → (p : Entry → Bool) → HandedOut p → ((x : Entry) × First p (fields r v) x × Lies s z x.bytes x.place) ⊎ (None p (fields r v) × Lies s z [] 0)
     part_is_its_own_bytes v e p h = Handing.handed_first r s z p h v e (fields_stand_there s.now v e)
 
-    pub refused_hands_out_nothing : (n q : ℕ) → read_record r s.now ≡ fault n q → (p : Entry → Bool) → HandedOut p → Lies s z [] 0
+    pub refused_hands_out_nothing : (n : Reason) (q : ℕ) → read_record r s.now ≡ fault n q → (p : Entry → Bool) → HandedOut p → Lies s z [] 0
     refused_hands_out_nothing n q e p h = Handing.handed_refused r s z p h n q e
 
   -- what a reader's table of places tells stands there too: its second and third number are the field's start and length
@@ -187,10 +189,10 @@ module _ (r : Members) (k : Clear r) where
     abbrev Filled : List ℕ → Type 0
     Filled x = Wrote d x (fill_answer r w d) (fill_after r w d)
 
-    abbrev NotFilled : ℕ → ℕ → Type 0
+    abbrev NotFilled : Reason → ℕ → Type 0
     NotFilled n p = Kept d n p (fill_answer r w d) (fill_after r w d)
 
-    pub refused_record_fills_nothing : (n p : ℕ) → read_record r w ≡ fault n p → NotFilled n p
+    pub refused_record_fills_nothing : (n : Reason) (p : ℕ) → read_record r w ≡ fault n p → NotFilled n p
     unfolding fill_answer fill_after fill_sheet bind
     refused_record_fills_nothing n p e = Whole.refused_kept d _ n p (rw e)
 
@@ -200,7 +202,7 @@ module _ (r : Members) (k : Clear r) where
       record_fills_its_sheet h = Whole.fits_wrote d (sheets r v) _ (bind_eq _ e) h
 
       -- "A reader that fills a sheet gives 20 after all else."
-      pub sheet-without-room : length d < length (sheets r v) → NotFilled no_room (length (sheets r v))
+      pub sheet-without-room : length d < length (sheets r v) → NotFilled NoRoom (length (sheets r v))
       unfolding fill_answer fill_after fill_sheet
       sheet-without-room h = Whole.short_kept d (sheets r v) _ (bind_eq _ e) h
 
@@ -209,25 +211,25 @@ module _ (r : Members) (k : Clear r) where
     abbrev Written : List ℕ → Type 0
     Written w = Wrote d w (write_answer r x d) (write_after r x d)
 
-    abbrev NotWritten : ℕ → ℕ → Type 0
+    abbrev NotWritten : Reason → ℕ → Type 0
     NotWritten n p = Kept d n p (write_answer r x d) (write_after r x d)
 
-    pub refused_sheet_writes_nothing : (n p : ℕ) → accept_sheet r x ≡ fault n p → NotWritten n p
+    pub refused_sheet_writes_nothing : (n : Reason) (p : ℕ) → accept_sheet r x ≡ fault n p → NotWritten n p
     unfolding write_answer write_after write_record bind
     refused_sheet_writes_nothing n p e = Whole.refused_kept d _ n p (rw e)
 
     -- "A writer reads the whole sheet first, then 17, then 20."
     module _ (v : Values r) (e : accept_sheet r x ≡ good v) where
-      pub too_large_a_record : largest_record < length (record_of r v) → NotWritten too_large 0
+      pub too_large_a_record : largest_record < length (record_of r v) → NotWritten TooLarge 0
       unfolding write_answer write_after write_record need
-      too_large_a_record h = Whole.refused_kept d _ too_large 0 (bind_eq _ e ∙ rw (lt-leb (length (record_of r v)) largest_record h))
+      too_large_a_record h = Whole.refused_kept d _ TooLarge 0 (bind_eq _ e ∙ rw (lt-leb (length (record_of r v)) largest_record h))
 
       module _ (l : length (record_of r v) ≤ largest_record) where
         pub sheet_writes_its_record : length (record_of r v) ≤ length d → Written (record_of r v)
         unfolding write_answer write_after write_record
         sheet_writes_its_record h = Whole.fits_wrote d (record_of r v) _ (bind_eq _ e ∙ need_eq _ _ _ _ (le→leb _ _ l)) h
 
-        pub record_without_room : length d < length (record_of r v) → NotWritten no_room (length (record_of r v))
+        pub record_without_room : length d < length (record_of r v) → NotWritten NoRoom (length (record_of r v))
         unfolding write_answer write_after write_record
         record_without_room h = Whole.short_kept d (record_of r v) _ (bind_eq _ e ∙ need_eq _ _ _ _ (le→leb _ _ l)) h
 
@@ -260,7 +262,7 @@ module _ (r : Members) (k : Clear r) where
   two_lists_differ us vs p q e = Runs.run_injective r inner us vs p q e
 
   -- a refused run: the records before the fault are what stands there, and the run reader stops at the same fault
-  pub refused_run_stops : (w : List ℕ) (vs : List (Values r)) (n p : ℕ) → read_run r w ≡ stopped vs n p
+  pub refused_run_stops : (w : List ℕ) (vs : List (Values r)) (n : Reason) (p : ℕ) → read_run r w ≡ stopped vs n p
       → (rest : List ℕ) × (w ≡ run_of r vs ++ rest) × All (Right r) vs × (here_at r w (length (run_of r vs)) ≡ fault n p)
   refused_run_stops w vs n p e = Runs.run_stops r w vs n p e
 
@@ -286,7 +288,7 @@ module _ (r : Members) (k : Clear r) where
   pub reader_stays_at_the_end : (s : List ℕ) (x : Reader) → length s ≤ x.position → (step_answer r s x ≡ told_none run_end) × (step_after r s x ≡ x)
   reader_stays_at_the_end s x h = Runs.step-ends r s x (reader_ends s x.position h)
 
-  pub reader_stays_at_a_fault : (s : List ℕ) (x : Reader) (n p : ℕ) → here_at r s x.position ≡ fault n p → (step_answer r s x ≡ refusal_after n p x.handed) × (step_after r s x ≡ x)
+  pub reader_stays_at_a_fault : (s : List ℕ) (x : Reader) (n : Reason) (p : ℕ) → here_at r s x.position ≡ fault n p → (step_answer r s x ≡ refusal_after n p x.handed) × (step_after r s x ≡ x)
   reader_stays_at_a_fault s x n p h = Runs.step-faults r s x n p h
 
   -- a run step by step, from a reader that was made: it hands out exactly the records of the list, in order, each with its place; the parts that it hands out
@@ -346,7 +348,7 @@ sheet_begins_with_the_seal's v = Record.sheet-begins v
 -- the same of both verdicts, and of any table of steps
 module _ (b : Rulebook) (w : List ℕ) (f : Findings) (original signer : List ℕ) where
   -- "after refusals of the record, then 18"
-  pub verdict_of_a_refused : (n p : ℕ) → read_record b.layout w ≡ fault n p → told_verdict (verdict b w f original signer) ≡ refusal n p
+  pub verdict_of_a_refused : (n : Reason) (p : ℕ) → read_record b.layout w ≡ fault n p → told_verdict (verdict b w f original signer) ≡ refusal n p
   unfolding verdict
   verdict_of_a_refused n p e = rw (e, Verdict.weigh_refused b n p f original signer)
 
@@ -358,25 +360,25 @@ module _ (b : Rulebook) (w : List ℕ) (f : Findings) (original signer : List �
     abbrev answer : Step Facts
     answer = first_failing b.steps b.passed facts
 
-    pub verdict_of_unreal_times : T (not (all_real f)) → told_verdict (verdict b w f original signer) ≡ refusal unreal_time 0
+    pub verdict_of_unreal_times : T (not (all_real f)) → told_verdict (verdict b w f original signer) ≡ refusal UnrealTime 0
     unfolding verdict
     verdict_of_unreal_times h = rw (e, Verdict.weigh-unreal b v f original signer h)
 
     -- else the number of the first failing row, and the notice where the row carries it and the maker is out of force now and at signing
     pub verdict_is_the_first : T (all_real f)
-        → (told_verdict (verdict b w f original signer) ≡ told_one answer.number (bit (answer.carries && maker_out facts))) × FirstFailing b.steps b.passed facts answer
+        → (told_verdict (verdict b w f original signer) ≡ told_one (verdict_number answer.verdict) (bit (answer.carries && maker_out facts))) × FirstFailing b.steps b.passed facts answer
     unfolding verdict judged
     verdict_is_the_first h = (rw (e, Verdict.weigh-judged b v f original signer h), Verdict.first-failing b.steps b.passed facts)
 
 -- "With no stamp in the record 32 to 34 never arise.": the answer has none of these numbers, and is the first failing row of the table without their rows
 pub no_stamp_no_step_h : (x : Facts) → stamped x ≡ false
-    → (is_of_stamp (first_failing signature_rules.steps signature_rules.passed x).number ≡ false)
+    → (is_of_stamp (verdict_number (first_failing signature_rules.steps signature_rules.passed x).verdict) ≡ false)
     × FirstFailing unstamped_steps signature_rules.passed x (first_failing signature_rules.steps signature_rules.passed x)
 no_stamp_no_step_h x h =
     (Verdict.unstamped_number x h, rw (Verdict.unstamped_answer x h) (Verdict.first-failing unstamped_steps signature_rules.passed x))
 
 -- "A notice goes with 0 and 26 to 34"; the seal verdict "gives no notice"
-pub notice_goes_with : (x : Facts) → (first_failing signature_rules.steps signature_rules.passed x).carries ≡ takes_notice (first_failing signature_rules.steps signature_rules.passed x).number
+pub notice_goes_with : (x : Facts) → (first_failing signature_rules.steps signature_rules.passed x).carries ≡ takes_notice (verdict_number (first_failing signature_rules.steps signature_rules.passed x).verdict)
 notice_goes_with x = Verdict.signature-notice x
 
 pub no_notice_with_a_seal : (x : Facts) → (first_failing seal_rules.steps seal_rules.passed x).carries ≡ false

@@ -9,36 +9,31 @@ ghost use Rattle.records.specs.Handing.{told_record, record_answer, fields_of, f
 ghost use Rattle.structures.specs.Structure.{row_of};
 ghost use Rattle.readers.specs.Whole.{whole_walk};
 
-use heads::Step;
-use layouts::Outcome;
 use places::TABLE_SIZE;
 use structures::Row;
-use terms::LARGEST_RECORD;
+use terms::{LARGEST_RECORD, Refusal};
 
 // What reading a record comes to; and, where it was accepted, the table of its places.
+// Kept: with a refusal there is a table too, an empty one of the same index (clause `placed`).
 #[derive(Clone, Copy)]
 pub struct Reading {
-    pub outcome: Outcome,
+    pub outcome: Result<usize, Refusal>,
     pub places: [usize; TABLE_SIZE],
 }
 
 // A record of at most `most` bytes that is the whole input, noted in a lent table of places: 5 if bytes are left over.
-pub fn whole(s: &[u8], x: Row, most: usize, places: &mut [usize]) -> Step
+pub fn whole(s: &[u8], x: Row, most: usize, places: &mut [usize]) -> Result<usize, Refusal>
     ensures { (result, places.new) ≡ whole_walk most (row_of x) s.now places.old }
 {
-    let r = walks::record(s, x, most, 0, s.len(), places);
-    let Step::Next(q) = r else {
-        return r;
-    };
-    edges::close(q, s.len())
+    let next = walks::record(s, x, most, 0, s.len(), places)?;
+    edges::close(next, s.len())
 }
 
 // A record of at most `most` bytes, and nothing noted of it.
-pub fn check(s: &[u8], x: Row, most: usize) -> Outcome
+pub fn check(s: &[u8], x: Row, most: usize) -> Result<usize, Refusal>
     ensures { told_outcome result ≡ told_record most (row_of x) s.now }
 {
-    let mut none = [0usize; 0];
-    outcomes::outcome(whole(s, x, most, &mut none))
+    whole(s, x, most, &mut [0usize; 0])
 }
 
 // A record of at most `most` bytes, and where its fields stand: of those in a list, the one of an index.
@@ -47,28 +42,26 @@ pub fn read(s: &[u8], x: Row, most: usize, index: usize) -> Reading
     ensures placed { Placed index (fields_of (row_of x) (accept most (row_of x) s.now)) result.places }
 {
     let mut places = places::blank(index);
-    let r = whole(s, x, most, &mut places);
-    let Step::Next(_) = r else {
+    let outcome = whole(s, x, most, &mut places);
+    if outcome.is_err() {
         return Reading {
-            outcome: outcomes::outcome(r),
+            outcome,
             places: places::blank(index),
         };
-    };
-    Reading {
-        outcome: outcomes::outcome(r),
-        places: places,
     }
+    Reading { outcome, places }
 }
 
-// A seal: its length, or the number and place of the first refusal.
-pub fn check_seal(s: &[u8]) -> Outcome
+// A seal: its length, or the first refusal.
+// Kept: each record by its name, as README and docs/PROMISES.md have it, over one function.
+pub fn check_seal(s: &[u8]) -> Result<usize, Refusal>
     ensures { told_outcome result ≡ record_answer seal s.now }
 {
     check(s, Row::Seal, LARGEST_RECORD)
 }
 
-// A signature record: its length, or the number and place of the first refusal.
-pub fn check_signature(s: &[u8]) -> Outcome
+// A signature record: its length, or the first refusal.
+pub fn check_signature(s: &[u8]) -> Result<usize, Refusal>
     ensures { told_outcome result ≡ record_answer signature s.now }
 {
     check(s, Row::Signature, LARGEST_RECORD)

@@ -7,7 +7,8 @@ use Rattle.std.specs.Prelude.{◌≡◌, refl, ℕ, Bool, true, ◌&&◌, List, 
 use Rattle.std.proofs.Math.Option.{Option}
 use Rattle.terms.specs.declared.Field.{Field}
 use Rattle.terms.specs.declared.Field.TheVariants.{SealInformation, Seal, Vendor, SealId, SealType, SealName, ListKind, CertificateList, ListedCertificate, ListedType, ListedDigest, Created, Start, End, PictureType, PictureData, Width, Height, SealCustomData, SealCustomId, SealCustomCritical, SealCustomValue, MakerCertificate, SealAlgorithm, SealSignedValue, SignedPart, SigningTime, OriginalDigest, PropertyText, SignedCustomData, SignedCustomId, SignedCustomCritical, SignedCustomValue, SignerCertificate, SignatureAlgorithm, SignatureValue, Stamp}
-use Rattle.terms.specs.Numbers.{done, absent, other_tag, bad_boolean, left_over, bad_length, item_missing}
+use Rattle.terms.specs.Numbers.{done, absent}
+use Rattle.terms.specs.declared.Reason.TheVariants.{OtherTag, BadBoolean, LeftOver, BadLength, ItemMissing}
 use Rattle.terms.specs.Answer.{Res, good, fault, pick, bind, need, have, every, enough, same, finish, Told, gives, told_one, told_two, told_none, refusal}
 use Rattle.terms.specs.Laws.Table.{Row, asks, answers, same_number, same_numbers, same_told, agree, agreed}
 use Rattle.terms.specs.Digits.{digits, number_from, leading}
@@ -61,9 +62,9 @@ numbers_s =
     ∷ (field_answer signature SignedPart 0 record_s, at 3 145)
     ∷ (field_answer signature SealInformation 0 record_s, at 11 96)
     ∷ (field_answer seal SealInformation 0 seal_s, at 2 96)
-    ∷ (record_answer signature (record_s ++ (0x00 ∷ [])), refusal left_over 165)
-    ∷ (record_answer signature (0x30 ∷ 0x80 ∷ []), refusal bad_length 0)
-    ∷ (record_answer signature [], refusal item_missing 0)
+    ∷ (record_answer signature (record_s ++ (0x00 ∷ [])), refusal LeftOver 165)
+    ∷ (record_answer signature (0x30 ∷ 0x80 ∷ []), refusal BadLength 0)
+    ∷ (record_answer signature [], refusal ItemMissing 0)
     ∷ []
 
 numbers_of_S : asks numbers_s ≡ answers numbers_s
@@ -211,7 +212,7 @@ answers_d =
     ∷ (field_answer signature ListedCertificate 0 record_d, told_none absent)
     ∷ (field_answer signature ListedDigest 2 record_d, told_none absent)
     ∷ (field_answer signature Stamp 0 record_s, told_none absent)
-    ∷ (field_answer signature Vendor 0 (0x30 ∷ 0x80 ∷ []), refusal bad_length 0)
+    ∷ (field_answer signature Vendor 0 (0x30 ∷ 0x80 ∷ []), refusal BadLength 0)
     ∷ []
 
 answers_of_D : asks answers_d ≡ answers answers_d
@@ -236,8 +237,8 @@ empty_custom =
 
 abbrev slip_rows : List Row
 slip_rows =
-    (record_answer signature digests_as_kind1, refusal other_tag 49)
-    ∷ (record_answer signature false_written, refusal bad_boolean 146)
+    (record_answer signature digests_as_kind1, refusal OtherTag 49)
+    ∷ (record_answer signature false_written, refusal BadBoolean 146)
     ∷ (record_answer signature empty_custom, told_one done 167)
     ∷ (count_answer signature SealCustomData empty_custom, told_one done 0)
     ∷ (count_answer signature SealCustomData record_s, told_none absent)

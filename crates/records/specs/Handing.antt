@@ -1,5 +1,5 @@
 -- Reading a seal and a signature record, filling and writing their sheets, and handing out (01, "Handing out"). Assumes nothing.
-use Rattle.std.specs.Prelude.{ℕ, Bool, false, ◌&&◌, ◌||◌, List, [], ◌∷◌, length}
+use Rattle.std.specs.Prelude.{ℕ, Bool, false, ◌&&◌, ◌||◌, List, [], ◌∷◌, length, ℤ}
 use Rattle.std.proofs.Math.Option.{Option, none, some}
 use Rattle.terms.specs.declared.Field.{Field}
 use Rattle.terms.specs.declared.Field.TheVariants.{CertificateList, Created, End, Height, ListKind, ListedCertificate, ListedDigest, ListedType, MakerCertificate, OriginalDigest, PictureData, PictureType, PropertyText, SealAlgorithm, SealCustomCritical, SealCustomData, SealCustomId, SealCustomItem, SealCustomValue, SealId, SealInformation, SealName, SealSignedValue, SealType, SignatureAlgorithm, SignatureValue, SignedCustomCritical, SignedCustomData, SignedCustomId, SignedCustomItem, SignedCustomValue, SignedPart, SignerCertificate, SigningTime, Stamp, Start, Vendor, Width}
@@ -13,14 +13,8 @@ use Rattle.layouts.specs.Fields.{Entry, fields, is_field, first, is_there, bytes
 use Rattle.records.specs.Record.{seal_information, seal, signed_part, signature}
 use Rattle.records.specs.declared.Record.{Record}
 use Rattle.records.specs.declared.Record.TheVariants.{Seal, Signature}
+use Rattle.records.specs.Found.{Found, told_found}
 use Rattle.records.specs.declared.Part.{Part}
-use Rattle.records.specs.declared.Part.TheVariants.{There, Absent as NoPart, Refused as PartRefused}
-use Rattle.records.specs.declared.Number.{Number}
-use Rattle.records.specs.declared.Number.TheVariants.{Value, Absent as NoNumber, Refused as NumberRefused}
-use Rattle.records.specs.declared.Critical.{Critical}
-use Rattle.records.specs.declared.Critical.TheVariants.{Is, Absent as NoCritical, Refused as CriticalRefused}
-use Rattle.records.specs.declared.Items.{Items}
-use Rattle.records.specs.declared.Items.TheVariants.{Count, Absent as NoItems, Refused as ItemsRefused}
 
 -- ---- whole records
 
@@ -166,22 +160,14 @@ seal_of v = (signed_part_of v).1.0
 
 -- ---- what the code's answers say in the paper's terms
 
-abbrev pub told_part : Part → Told
-told_part (There a n) = told_two done a n
-told_part NoPart = told_none absent
-told_part (PartRefused n p) = refusal n p
+abbrev pub told_part : Found Part → Told
+told_part x = told_found (λ p. told_two done p.start p.length) x
 
-abbrev pub told_number : Number → Told
-told_number (Value z) = gives done (z ∷ [])
-told_number NoNumber = told_none absent
-told_number (NumberRefused n p) = refusal n p
+abbrev pub told_number : Found ℤ → Told
+told_number x = told_found (λ z. gives done (z ∷ [])) x
 
-abbrev pub told_is : Critical → Told
-told_is (Is t) = told_one done (bit t)
-told_is NoCritical = told_none absent
-told_is (CriticalRefused n p) = refusal n p
+abbrev pub told_is : Found Bool → Told
+told_is x = told_found (λ t. told_one done (bit t)) x
 
-abbrev pub told_items : Items → Told
-told_items (Count n) = told_one done n
-told_items NoItems = told_none absent
-told_items (ItemsRefused n p) = refusal n p
+abbrev pub told_items : Found ℕ → Told
+told_items x = told_found (λ n. told_one done n) x

@@ -11,6 +11,7 @@ use structures::{Row, Structure};
 use terms::Field;
 
 // How many members a row has, filled up with blanks.
+// Kept: no heap, so every row is an array of the longest length.
 pub const MEMBERS: usize = 6;
 
 // What stands next in a row; `Blank` fills it up. `Choice`: a primitive item, and of two items of one name the first where its content
@@ -189,6 +190,7 @@ fn signed_custom_item() -> [Member; MEMBERS]
 }
 
 // The row of a name.
+// Kept: which row an enum's case has; a table of closures would need a number in the place of the name.
 pub fn members_of(x: Row) -> [Member; MEMBERS]
     ensures { row_of x ≡ members_of result }
 {

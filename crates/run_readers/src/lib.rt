@@ -7,8 +7,8 @@ ghost use Rattle.records.specs.Part.{PartOf};
 ghost use Rattle.runs.specs.Run.{at, step_answer, step_after, step_part, held, told_stepped, handed_record};
 ghost use Rattle.fields.specs.Handed.{within};
 
-use records::Record;
-use runs::{Moved, Stepped};
+use records::{Part, Record};
+use runs::{Moved, Stopped};
 
 // A run, where to read on, and how many records were handed out.
 #[derive(Clone, Copy)]
@@ -24,7 +24,7 @@ pub struct After<'a> {
     pub run: &'a [u8],
     pub position: usize,
     pub handed: u64,
-    pub answer: Stepped,
+    pub answer: Result<Option<Part>, Stopped>,
 }
 
 // A step, on plain values.
@@ -34,44 +34,49 @@ fn step(run: &[u8], position: usize, handed: u64) -> Moved
     run_walks::step(run, Record::Signature, position, handed)
 }
 
-// A run reader at the run's start.
-pub fn new<'a>(run: &'a [u8]) -> RunReader<'a>
-    ensures { (result.run ≡ run.entry) × ((result.position ≡ 0) × (result.handed ≡ 0)) }
-{
-    RunReader {
-        run,
-        position: 0,
-        handed: 0,
+impl<'a> RunReader<'a> {
+    // A run reader at the run's start.
+    pub fn new(run: &'a [u8]) -> RunReader<'a>
+        ensures { (result.run ≡ run.entry) × ((result.position ≡ 0) × (result.handed ≡ 0)) }
+    {
+        RunReader {
+            run,
+            position: 0,
+            handed: 0,
+        }
+    }
+
+    // The next record, the end or the refusal, and the reader after it: at the end and at a refusal as it was.
+    pub fn next(self) -> After<'a>
+        ensures { (result.run ≡ self.entry.run) × ((told_stepped result.answer ≡ step_answer signature self.entry.run.now (at self.entry.position self.entry.handed)) × (at result.position result.handed ≡ step_after signature self.entry.run.now (at self.entry.position self.entry.handed))) }
+    {
+        let moved = step(self.run, self.position, self.handed);
+        After {
+            run: self.run,
+            position: moved.position,
+            handed: moved.handed,
+            answer: moved.answer,
+        }
     }
 }
 
-// The next record, the end or the refusal, and the reader after it: at the end and at a refusal as it was.
-pub fn next<'a>(reader: RunReader<'a>) -> After<'a>
-    ensures { (result.run ≡ reader.entry.run) × ((told_stepped result.answer ≡ step_answer signature reader.entry.run.now (at reader.entry.position reader.entry.handed)) × (at result.position result.handed ≡ step_after signature reader.entry.run.now (at reader.entry.position reader.entry.handed))) }
-{
-    let m = step(reader.run, reader.position, reader.handed);
-    After {
-        run: reader.run,
-        position: m.position,
-        handed: m.handed,
-        answer: m.answer,
+impl<'a> After<'a> {
+    // The part of the run that was handed out: at the end and at a refusal no bytes, at the run's start.
+    pub fn part(self) -> &'a [u8]
+        ensures { PartOf self.entry.run result (within (length self.entry.run.now) (handed_record self.entry.answer)) }
+    {
+        run_steps::cut(self.run, self.answer)
     }
-}
-
-// The part of the run that was handed out: at the end and at a refusal no bytes, at the run's start.
-pub fn part<'a>(after: After<'a>) -> &'a [u8]
-    ensures { PartOf after.entry.run result (within (length after.entry.run.now) (handed_record after.entry.answer)) }
-{
-    run_steps::cut(after.run, after.answer)
 }
 
 // The record at a position, as a part of the run: what a run reader hands out there, for a caller with a plain slice.
 pub fn record_at(run: &[u8], position: usize) -> &[u8]
     ensures { PartOf run.entry result (step_part signature run.now position) }
 {
-    part(next(RunReader {
+    let reader = RunReader {
         run,
         position,
         handed: 0,
-    }))
+    };
+    reader.next().part()
 }

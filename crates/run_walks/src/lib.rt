@@ -7,23 +7,22 @@ ghost use Rattle.layouts.specs.Scan.{record_scan};
 ghost use Rattle.records.specs.Handing.{layout_of};
 ghost use Rattle.runs.specs.Run.{at, step_answer, step_after, run_answer, held, told_stepped, told_counted};
 
-use heads::Step;
-use records::Record;
-use runs::{Counted, Moved, Stepped};
-use terms::LARGEST_RECORD;
+use records::{Part, Record};
+use runs::{Moved, Stopped};
+use terms::{LARGEST_RECORD, Refusal};
 
 // The record at a position, whatever follows it: where it ends, or the first refusal in it.
-fn here(run: &[u8], x: Record, position: usize) -> Step
+fn here(run: &[u8], x: Record, position: usize) -> Result<usize, Refusal>
     ensures { result ≡ record_scan largest_record (layout_of x) run.now position (length run.now) }
 {
-    let mut none = [0usize; 0];
+    let row = structures::row_of(x);
     walks::record(
         run,
-        structures::row_of(x),
+        row,
         LARGEST_RECORD,
         position,
         run.len(),
-        &mut none,
+        &mut [0usize; 0],
     )
 }
 
@@ -36,40 +35,43 @@ pub fn step(run: &[u8], x: Record, position: usize, handed: u64) -> Moved
         return Moved {
             position,
             handed,
-            answer: Stepped::End,
+            answer: Ok(None),
         };
     }
-    let found = here(run, x, position);
-    match found {
-        Step::Refused(number, place) => Moved {
-            position,
-            handed,
-            answer: Stepped::Refused(number, place, handed),
-        },
-        Step::Next(end) => Moved {
+    match here(run, x, position) {
+        Ok(end) => Moved {
             position: end,
             handed: run_steps::one_more(handed),
-            answer: Stepped::Record {
+            answer: Ok(Some(Part {
                 start: position,
                 length: end - position,
-            },
+            })),
+        },
+        Err(refusal) => Moved {
+            position,
+            handed,
+            answer: Err(Stopped {
+                refusal,
+                before: handed,
+            }),
         },
     }
 }
 
 // A whole run: how many records it has, or the refusal and the records before it.
-pub fn whole(run: &[u8], x: Record) -> Counted
+pub fn whole(run: &[u8], x: Record) -> Result<u64, Stopped>
     ensures { told_counted result ≡ run_answer (layout_of x) run.now }
 {
-    let mut position: usize = 0;
-    let mut records: u64 = 0;
+    let mut position = 0;
+    let mut before = 0;
+    // Kept: a record's end says where the next one starts, so no range counts the turns.
     while position < run.len() {
-        let r = here(run, x, position);
-        match r {
-            Step::Refused(number, place) => return Counted::Refused(number, place, records),
-            Step::Next(end) => position = end,
+        // Kept: what `?` hands on after a `map_err` with the records before it was not proved.
+        match here(run, x, position) {
+            Ok(end) => position = end,
+            Err(refusal) => return Err(Stopped { refusal, before }),
         }
-        records += 1;
+        before += 1;
     }
-    Counted::Records(records)
+    Ok(before)
 }

@@ -1,22 +1,23 @@
 -- Runs of record S and steps of a run reader over them, evaluated. The expected answers are document 01's. Assumes nothing.
-use Rattle.std.specs.Prelude.{◌≡◌, refl, ℕ, List, [], ◌∷◌, ◌++◌, set, take, pos}
-use Rattle.terms.specs.Numbers.{done, other_tag, past_end, bad_character, too_large, run_end}
+use Rattle.std.specs.Prelude.{◌≡◌, refl, ℕ, List, [], ◌∷◌, ◌++◌, set, take, pos, Ok, Some, None}
+use Rattle.terms.specs.Numbers.{reason_number, done, run_end}
+use Rattle.terms.specs.declared.Reason.{Reason}
+use Rattle.terms.specs.declared.Reason.TheVariants.{OtherTag, PastEnd, BadCharacter, TooLarge}
 use Rattle.terms.specs.Answer.{Told, gives, refuses, told_one, told_two, told_none}
 use Rattle.terms.specs.Laws.Table.{Row, asks, answers, agreed}
 use Rattle.records.specs.Record.{seal, signature}
 use Rattle.records.specs.Samples.{record_s, record_d}
 use Rattle.records.specs.Examples.{evaluate, seal_s}
-use Rattle.runs.specs.Run.{and_then, onward, run_from, read_run, run_answer, Reader, at, made, here_in, here_at, one_more, step_after, step_answer, step_part, handed_record, told_stepped, told_counted}
-use Rattle.runs.specs.declared.Stepped.TheVariants.{Record, End, Refused}
-use Rattle.runs.specs.declared.Counted.TheVariants.{Records, Refused as RunRefused}
+use Rattle.records.specs.Found.{part}
+use Rattle.runs.specs.Run.{and_then, onward, run_from, read_run, run_answer, Reader, at, made, here_in, here_at, one_more, step_after, step_answer, step_part, handed_record, told_stepped, told_counted, stopped_at}
 
 evaluate_run : Unit {0}
 unfolding evaluate and_then onward run_from read_run run_answer here_in here_at one_more step_after step_answer step_part
 evaluate_run = tt
 
 -- a refusal's number and place, and the records before it
-abbrev after : ℕ → ℕ → ℕ → Told
-after n p k = refuses n (pos p ∷ pos k ∷ [])
+abbrev after : Reason → ℕ → ℕ → Told
+after n p k = refuses (reason_number n) (pos p ∷ pos k ∷ [])
 
 -- S twice: 330 bytes
 abbrev SS : List ℕ
@@ -34,15 +35,15 @@ runs =
     ∷ (run_answer signature (record_d ++ record_s ++ record_d), told_one done 3)
     ∷ (run_answer seal (seal_s ++ seal_s), told_one done 2)
     -- a fault in the first record, and where the second and the third must begin
-    ∷ (run_answer signature (0x00 ∷ []), after other_tag 0 0)
-    ∷ (run_answer signature (record_s ++ 0x00 ∷ []), after other_tag 165 1)
-    ∷ (run_answer signature (SS ++ 0x00 ∷ []), after other_tag 330 2)
+    ∷ (run_answer signature (0x00 ∷ []), after OtherTag 0 0)
+    ∷ (run_answer signature (record_s ++ 0x00 ∷ []), after OtherTag 165 1)
+    ∷ (run_answer signature (SS ++ 0x00 ∷ []), after OtherTag 330 2)
     -- a second record that is cut, one whose seal id is bad, one that is too large
-    ∷ (run_answer signature (record_s ++ take 164 record_s), after past_end 165 1)
-    ∷ (run_answer signature (record_s ++ set record_s 26 0x80), after bad_character 189 1)
-    ∷ (run_answer signature (record_s ++ 0x30 ∷ 0x82 ∷ 0xFF ∷ 0xFC ∷ []), after too_large 165 1)
+    ∷ (run_answer signature (record_s ++ take 164 record_s), after PastEnd 165 1)
+    ∷ (run_answer signature (record_s ++ set record_s 26 0x80), after BadCharacter 189 1)
+    ∷ (run_answer signature (record_s ++ 0x30 ∷ 0x82 ∷ 0xFF ∷ 0xFC ∷ []), after TooLarge 165 1)
     -- a fault before good records
-    ∷ (run_answer signature (set record_s 26 0x80 ++ record_s), after bad_character 24 0)
+    ∷ (run_answer signature (set record_s 26 0x80 ++ record_s), after BadCharacter 24 0)
     ∷ []
 
 whole-runs : asks runs ≡ answers runs
@@ -77,10 +78,10 @@ steps =
     ∷ (says [] made, told_none run_end)
     ∷ (holds (then [] made), told_two done 0 0)
     -- a fault, and once more
-    ∷ (says (record_s ++ 0x00 ∷ []) (at 165 1), after other_tag 165 1)
+    ∷ (says (record_s ++ 0x00 ∷ []) (at 165 1), after OtherTag 165 1)
     ∷ (holds (then (record_s ++ 0x00 ∷ []) (at 165 1)), told_two done 165 1)
-    ∷ (says (record_s ++ 0x00 ∷ []) (then (record_s ++ 0x00 ∷ []) (at 165 1)), after other_tag 165 1)
-    ∷ (says (set record_s 26 0x80) made, after bad_character 24 0)
+    ∷ (says (record_s ++ 0x00 ∷ []) (then (record_s ++ 0x00 ∷ []) (at 165 1)), after OtherTag 165 1)
+    ∷ (says (set record_s 26 0x80) made, after BadCharacter 24 0)
     ∷ (holds (then (set record_s 26 0x80) made), told_two done 0 0)
     -- a fault in the second record does not hold the first one back
     ∷ (says (record_s ++ 0x00 ∷ []) made, told_two done 0 165)
@@ -91,9 +92,9 @@ steps =
 abbrev elsewhere : List Row
 elsewhere =
     -- inside S: its length's first byte, and its signed part, which begins with no signed part
-    (says SS (at 1 5), after other_tag 1 5)
+    (says SS (at 1 5), after OtherTag 1 5)
     ∷ (holds (then SS (at 1 5)), told_two done 1 5)
-    ∷ (says SS (at 3 9), after other_tag 6 9)
+    ∷ (says SS (at 3 9), after OtherTag 6 9)
     ∷ (holds (then SS (at 3 9)), told_two done 3 9)
     -- where a record begins, with a number that is not its own
     ∷ (says SS (at 165 7), told_two done 165 165)
@@ -107,7 +108,7 @@ elsewhere =
     ∷ (says SS (at 165 18446744073709551615), told_two done 165 165)
     ∷ (holds (then SS (at 165 18446744073709551615)), told_two done 330 18446744073709551615)
     ∷ (holds (then SS (at 165 18446744073709551614)), told_two done 330 18446744073709551615)
-    ∷ (says SS (at 1 18446744073709551615), after other_tag 1 18446744073709551615)
+    ∷ (says SS (at 1 18446744073709551615), after OtherTag 1 18446744073709551615)
     ∷ []
 
 reader_steps : asks (steps ++ elsewhere) ≡ answers (steps ++ elsewhere)
@@ -117,11 +118,11 @@ reader_steps = agreed (steps ++ elsewhere) tt
 -- the code's answers in numbers: 0 for what is there, 255 for the end of a run (03, 42), a refusal with its own and the records before it
 abbrev tellings : List Row
 tellings =
-    (told_stepped (Record 165 254), gives 0 (pos 165 ∷ pos 254 ∷ []))
-    ∷ (told_stepped End, gives 255 [])
-    ∷ (told_stepped (Refused 2 165 1), refuses 2 (pos 165 ∷ pos 1 ∷ []))
-    ∷ (told_counted (Records 2), gives 0 (pos 2 ∷ []))
-    ∷ (told_counted (RunRefused 2 165 1), refuses 2 (pos 165 ∷ pos 1 ∷ []))
+    (told_stepped (Ok (Some (part 165 254))), gives 0 (pos 165 ∷ pos 254 ∷ []))
+    ∷ (told_stepped (Ok None), gives 255 [])
+    ∷ (told_stepped (stopped_at OtherTag 165 1), refuses 2 (pos 165 ∷ pos 1 ∷ []))
+    ∷ (told_counted (Ok 2), gives 0 (pos 2 ∷ []))
+    ∷ (told_counted (stopped_at OtherTag 165 1), refuses 2 (pos 165 ∷ pos 1 ∷ []))
     ∷ []
 
 told-answers : asks tellings ≡ answers tellings
@@ -133,5 +134,5 @@ parts : step_part signature SS 0 ∷ step_part signature SS 165 ∷ step_part si
 unfolding evaluate_run
 parts = refl
 
-handings : handed_record (Record 165 254) ∷ handed_record End ∷ handed_record (Refused other_tag 165 1) ∷ [] ≡ (165, 254) ∷ (0, 0) ∷ (0, 0) ∷ []
+handings : handed_record (Ok (Some (part 165 254))) ∷ handed_record (Ok None) ∷ handed_record (stopped_at OtherTag 165 1) ∷ [] ≡ (165, 254) ∷ (0, 0) ∷ (0, 0) ∷ []
 handings = refl

@@ -1,30 +1,29 @@
 -- A run: accepted records end to end, none or many (01, "Refusal numbers" and "Handing out"). Assumes nothing.
-use Rattle.std.specs.Prelude.{ℕ, suc, zero, ◌+◌, ◌-◌, ◌^◌, List, [], ◌∷◌, length, drop, pos, ltb}
+use Rattle.std.specs.Prelude.{ℕ, suc, zero, ◌+◌, ◌-◌, ◌^◌, List, [], ◌∷◌, length, drop, pos, ltb, Ok, Err, Some, None, Result, Option as Maybe}
 use Rattle.std.proofs.Math.Option.{Option, none, some}
-use Rattle.terms.specs.Numbers.{done, run_end, largest_record}
+use Rattle.terms.specs.declared.Reason.{Reason}
+use Rattle.terms.specs.Numbers.{reason_number, done, run_end, largest_record}
 use Rattle.terms.specs.Answer.{Res, good, fault, Got, pick, bind, Told, refuses, told_one, told_two, told_none}
 use Rattle.layouts.specs.Layout.{Members, Values, each}
 use Rattle.layouts.specs.Whole.{record_of, record_at}
-use Rattle.runs.specs.declared.Stepped.{Stepped}
-use Rattle.runs.specs.declared.Stepped.TheVariants.{Record, End, Refused as StepRefused}
 use Rattle.runs.specs.declared.Moved.{Moved}
-use Rattle.runs.specs.declared.Counted.{Counted}
-use Rattle.runs.specs.declared.Counted.TheVariants.{Records, Refused as RunRefused}
+use Rattle.runs.specs.declared.Stopped.{Stopped}
+use Rattle.records.specs.declared.Part.{Part}
 
 -- the bytes of a list of records
 abbrev pub run_of : (r : Members) → List (Values r) → List ℕ
 run_of r vs = each (λ v. record_of r v) vs
 
 -- a refusal with the number of records before it
-abbrev pub refusal_after : ℕ → ℕ → ℕ → Told
-refusal_after n p k = refuses n (pos p ∷ pos k ∷ [])
+abbrev pub refusal_after : Reason → ℕ → ℕ → Told
+refusal_after n p k = refuses (reason_number n) (pos p ∷ pos k ∷ [])
 
 -- ---- a whole run
 
--- the records of a run; or those before the fault, with its number and its place from the run's start
+-- the records of a run; or those before the fault, with its reason and its place from the run's start
 pub data Ran (A : Type 0) : Type 0 where
   whole : List A → Ran A
-  stopped : List A → ℕ → ℕ → Ran A
+  stopped : List A → Reason → ℕ → Ran A
 
 unfoldable pub and_then : {A : Type 0} → A → Ran A → Ran A
 and_then a (whole xs) = whole (a ∷ xs)
@@ -111,10 +110,17 @@ step_part r s p = part_here (here_at r s p) p
 
 -- ---- what the code's answers say in the paper's terms
 
+-- what a step answers: where the record lies that it hands out, none at the end; or why it stops
+abbrev pub Stepped : Type 0
+Stepped = Result (Maybe Part) Stopped
+
+abbrev pub stopped_at : {A : Type 0} → Reason → ℕ → ℕ → Result A Stopped
+stopped_at n p k = Err (record { refusal = record { reason = n; place = p }; before = k })
+
 abbrev pub told_stepped : Stepped → Told
-told_stepped (Record a n) = told_two done a n
-told_stepped End = told_none run_end
-told_stepped (StepRefused n p k) = refusal_after n p k
+told_stepped (Ok (Some p)) = told_two done p.start p.length
+told_stepped (Ok None) = told_none run_end
+told_stepped (Err e) = refusal_after e.refusal.reason e.refusal.place e.before
 
 -- what a reader holds after a step
 abbrev pub held : Moved → Reader
@@ -122,10 +128,14 @@ held m = at m.position m.handed
 
 -- start and length of what an answer names
 abbrev pub handed_record : Stepped → ℕ × ℕ
-handed_record (Record a n) = (a, n)
-handed_record End = (0, 0)
-handed_record (StepRefused n p k) = (0, 0)
+handed_record (Ok (Some p)) = (p.start, p.length)
+handed_record (Ok None) = (0, 0)
+handed_record (Err e) = (0, 0)
+
+-- and what a whole run answers
+abbrev pub Counted : Type 0
+Counted = Result ℕ Stopped
 
 abbrev pub told_counted : Counted → Told
-told_counted (Records n) = told_one done n
-told_counted (RunRefused n p k) = refusal_after n p k
+told_counted (Ok n) = told_one done n
+told_counted (Err e) = refusal_after e.refusal.reason e.refusal.place e.before

@@ -1,24 +1,21 @@
-// One step of a run: the next record's start and length, the end, or the refusal's number and place and the records before it.
+// What a run comes to, step by step and as a whole.
 #![tactic(auto)]
 
-#[derive(Clone, Copy)]
-pub enum Stepped {
-    Record { start: usize, length: usize },
-    End,
-    Refused(u8, usize, u64),
+use records::Part;
+use terms::Refusal;
+
+// Why a run stops before its end: the refusal, and how many records stand before it.
+#[derive(Clone, Copy, PartialEq, Eq, Debug)]
+pub struct Stopped {
+    pub refusal: Refusal,
+    pub before: u64,
 }
 
-// What a step comes to: the position and the number of records handed out after it, and its answer.
-#[derive(Clone, Copy)]
+// What a step comes to: the position and the number of records handed out after it; and where the record lies that it hands out, none at the
+// end.
+#[derive(Clone, Copy, PartialEq, Eq, Debug)]
 pub struct Moved {
     pub position: usize,
     pub handed: u64,
-    pub answer: Stepped,
-}
-
-// A whole run: how many records it has, or the refusal's number and place and the records before it.
-#[derive(Clone, Copy)]
-pub enum Counted {
-    Records(u64),
-    Refused(u8, usize, u64),
+    pub answer: Result<Option<Part>, Stopped>,
 }

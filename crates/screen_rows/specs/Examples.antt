@@ -1,5 +1,5 @@
 -- Lines of a screen, evaluated: names, depths and kinds of content as document 01's layout has them. Assumes nothing.
-use Rattle.std.specs.Prelude.{◌≡◌, refl, ℕ, List, [], ◌∷◌, take, drop}
+use Rattle.std.specs.Prelude.{◌≡◌, refl, ℕ, [], ◌∷◌, take, drop}
 use Rattle.terms.specs.declared.Field.{Field}
 use Rattle.terms.specs.declared.Field.TheVariants.{SealInformation, Header, Vendor, ListKind, CertificateList, ListedCertificate, ListedEntry, ListedType, ListedDigest, Created, SignedPart, Seal, PropertyText, SignedCustomData, SignedCustomItem, SignedCustomId, SignedCustomCritical, SignedCustomValue, SignerCertificate, SignatureAlgorithm, SignatureValue, Stamp}
 use Rattle.screen_rows.specs.Screen.{rows, row_on, name_on}

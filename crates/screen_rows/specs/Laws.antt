@@ -1,6 +1,7 @@
 -- The rows by their lines, and that each name stands on one. Assumes nothing.
 use Rattle.std.specs.Prelude.{◌≡◌, ℕ, zero, suc, ◌+◌, ◌≤◌, ◌<◌, Bool, true, ◌&&◌, List, [], ◌∷◌, length, get_or, T, eqb}
 use Rattle.std.proofs.Common.{sym, ap, ◌∙◌, arith, eqb→eq}
+use Rattle.std.proofs.lemmas.List.{get_or_default}
 use Rattle.std.proofs.Math.ListN.{get_or-eq_default}
 use Rattle.terms.specs.declared.Field.{Field}
 use Rattle.terms.specs.Names.{names_count, same_name}
@@ -9,22 +10,12 @@ use Rattle.terms.specs.Laws.Answer.{and_l, and_r}
 use Rattle.screen_rows.specs.Screen.{rows, row_on, name_on}
 use Rattle.screen_rows.specs.declared.Row.{Row}
 
--- a row by the line's number
-pub on_line : (n m : ℕ) (x : Row) → n ≡ m → x ≡ row_on m → x ≡ row_on n
-on_line n m x h k = rw h k
+-- a row by the line's number; past the last line, the first
+pub on_line : (n : ℕ) (x : Row) → n < names_count → get_or rows n x ≡ row_on n
+on_line n x h = get_or_default rows n x (row_on 0) h
 
--- a number that is none of those below a bound is not below it
-unfoldable pub Besides : ℕ → ℕ → Type 0
-Besides zero n = Unit {0}
-Besides (suc k) n = Besides k n × (n ≡ k → ⊥)
-
-past : (k n : ℕ) → Besides k n → k ≤ n
-unfolding Besides
-past zero n h = omega arith
-past (suc k) n h = let l : k ≤ n = past k n h.0 in omega (arith, l, h.1)
-
-pub past_last : (n : ℕ) → Besides names_count n → get_or rows 0 (row_on 0) ≡ row_on n
-past_last n h = sym (get_or-eq_default rows (row_on 0) (past names_count n h))
+pub past_last : (n : ℕ) → names_count ≤ n → row_on 0 ≡ row_on n
+past_last n h = sym (get_or-eq_default rows (row_on 0) h)
 
 -- the first of some rows that has a name, by how many stand before it
 line_in : List Row → Field → ℕ

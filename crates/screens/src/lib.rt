@@ -12,6 +12,7 @@ use screen_rows::Shows;
 use terms::Field;
 
 // A line of a record: its row, and what stands under its name.
+// Kept: the flag and the numbers each stand in the table, and `shown` says all four of any table (clauses `there_value`, `result_value_2`).
 #[derive(Clone, Copy)]
 pub struct Line {
     pub name: Field,

@@ -1,5 +1,6 @@
 // The fields of a seal by name: each the part of the lent record that it is, and, beside it, where that part lies or why there is none.
 // The record is a seal, or a signature record with its seal.
+// Kept: an accessor for each field by its name, as the rules ask and docs/FIELDS.md lists them; what they share is one function.
 #![tactic(auto)]
 
 ghost use Rattle.std.specs.Prelude.{◌≡◌};
@@ -8,7 +9,7 @@ ghost use Rattle.records.specs.Handing.{layout_of, field_in, field_answer, hande
 ghost use Rattle.records.specs.Part.{PartOf};
 
 use records::{Part, Record};
-use terms::Field;
+use terms::{Field, Refusal};
 
 // What the maker signed: the seal information, with its own tag and length.
 pub fn signed_bytes(s: &[u8], x: Record) -> &[u8]
@@ -18,7 +19,7 @@ pub fn signed_bytes(s: &[u8], x: Record) -> &[u8]
 }
 
 // Where what the maker signed lies, or why there is none.
-pub fn signed_bytes_place(s: &[u8], x: Record) -> Part
+pub fn signed_bytes_place(s: &[u8], x: Record) -> Result<Option<Part>, Refusal>
     ensures { told_part result ≡ field_answer (layout_of x) SealInformation 0 s.now }
 {
     fields::find(s, x, Field::SealInformation, 0)
@@ -32,7 +33,7 @@ pub fn vendor(s: &[u8], x: Record) -> &[u8]
 }
 
 // Where the vendor lies, or why there is none.
-pub fn vendor_place(s: &[u8], x: Record) -> Part
+pub fn vendor_place(s: &[u8], x: Record) -> Result<Option<Part>, Refusal>
     ensures { told_part result ≡ field_answer (layout_of x) Vendor 0 s.now }
 {
     fields::find(s, x, Field::Vendor, 0)
@@ -46,7 +47,7 @@ pub fn id(s: &[u8], x: Record) -> &[u8]
 }
 
 // Where the seal id lies, or why there is none.
-pub fn id_place(s: &[u8], x: Record) -> Part
+pub fn id_place(s: &[u8], x: Record) -> Result<Option<Part>, Refusal>
     ensures { told_part result ≡ field_answer (layout_of x) SealId 0 s.now }
 {
     fields::find(s, x, Field::SealId, 0)
@@ -60,7 +61,7 @@ pub fn name(s: &[u8], x: Record) -> &[u8]
 }
 
 // Where the seal's name lies, or why there is none.
-pub fn name_place(s: &[u8], x: Record) -> Part
+pub fn name_place(s: &[u8], x: Record) -> Result<Option<Part>, Refusal>
     ensures { told_part result ≡ field_answer (layout_of x) SealName 0 s.now }
 {
     fields::find(s, x, Field::SealName, 0)
@@ -74,7 +75,7 @@ pub fn certificate(s: &[u8], x: Record, index: usize) -> &[u8]
 }
 
 // Where a certificate of the list lies, or why there is none.
-pub fn certificate_place(s: &[u8], x: Record, index: usize) -> Part
+pub fn certificate_place(s: &[u8], x: Record, index: usize) -> Result<Option<Part>, Refusal>
     ensures { told_part result ≡ field_answer (layout_of x) ListedCertificate index s.now }
 {
     fields::find(s, x, Field::ListedCertificate, index)
@@ -88,7 +89,7 @@ pub fn digest_type(s: &[u8], x: Record, index: usize) -> &[u8]
 }
 
 // Where the PrintableString of a listed digest lies, or why there is none.
-pub fn digest_type_place(s: &[u8], x: Record, index: usize) -> Part
+pub fn digest_type_place(s: &[u8], x: Record, index: usize) -> Result<Option<Part>, Refusal>
     ensures { told_part result ≡ field_answer (layout_of x) ListedType index s.now }
 {
     fields::find(s, x, Field::ListedType, index)
@@ -102,7 +103,7 @@ pub fn digest(s: &[u8], x: Record, index: usize) -> &[u8]
 }
 
 // Where a listed digest lies, or why there is none.
-pub fn digest_place(s: &[u8], x: Record, index: usize) -> Part
+pub fn digest_place(s: &[u8], x: Record, index: usize) -> Result<Option<Part>, Refusal>
     ensures { told_part result ≡ field_answer (layout_of x) ListedDigest index s.now }
 {
     fields::find(s, x, Field::ListedDigest, index)
@@ -116,7 +117,7 @@ pub fn created(s: &[u8], x: Record) -> &[u8]
 }
 
 // Where the time of its making lies, or why there is none.
-pub fn created_place(s: &[u8], x: Record) -> Part
+pub fn created_place(s: &[u8], x: Record) -> Result<Option<Part>, Refusal>
     ensures { told_part result ≡ field_answer (layout_of x) Created 0 s.now }
 {
     fields::find(s, x, Field::Created, 0)
@@ -130,7 +131,7 @@ pub fn start(s: &[u8], x: Record) -> &[u8]
 }
 
 // Where the start of the seal's period lies, or why there is none.
-pub fn start_place(s: &[u8], x: Record) -> Part
+pub fn start_place(s: &[u8], x: Record) -> Result<Option<Part>, Refusal>
     ensures { told_part result ≡ field_answer (layout_of x) Start 0 s.now }
 {
     fields::find(s, x, Field::Start, 0)
@@ -144,7 +145,7 @@ pub fn end(s: &[u8], x: Record) -> &[u8]
 }
 
 // Where the end of the seal's period lies, or why there is none.
-pub fn end_place(s: &[u8], x: Record) -> Part
+pub fn end_place(s: &[u8], x: Record) -> Result<Option<Part>, Refusal>
     ensures { told_part result ≡ field_answer (layout_of x) End 0 s.now }
 {
     fields::find(s, x, Field::End, 0)
@@ -158,7 +159,7 @@ pub fn picture_type(s: &[u8], x: Record) -> &[u8]
 }
 
 // Where the picture's type lies, or why there is none.
-pub fn picture_type_place(s: &[u8], x: Record) -> Part
+pub fn picture_type_place(s: &[u8], x: Record) -> Result<Option<Part>, Refusal>
     ensures { told_part result ≡ field_answer (layout_of x) PictureType 0 s.now }
 {
     fields::find(s, x, Field::PictureType, 0)
@@ -172,7 +173,7 @@ pub fn picture_data(s: &[u8], x: Record) -> &[u8]
 }
 
 // Where the picture's data lies, or why there is none.
-pub fn picture_data_place(s: &[u8], x: Record) -> Part
+pub fn picture_data_place(s: &[u8], x: Record) -> Result<Option<Part>, Refusal>
     ensures { told_part result ≡ field_answer (layout_of x) PictureData 0 s.now }
 {
     fields::find(s, x, Field::PictureData, 0)
@@ -186,7 +187,7 @@ pub fn custom_id(s: &[u8], x: Record, index: usize) -> &[u8]
 }
 
 // Where the identifier of a custom item lies, or why there is none.
-pub fn custom_id_place(s: &[u8], x: Record, index: usize) -> Part
+pub fn custom_id_place(s: &[u8], x: Record, index: usize) -> Result<Option<Part>, Refusal>
     ensures { told_part result ≡ field_answer (layout_of x) SealCustomId index s.now }
 {
     fields::find(s, x, Field::SealCustomId, index)
@@ -200,7 +201,7 @@ pub fn custom_value(s: &[u8], x: Record, index: usize) -> &[u8]
 }
 
 // Where the value of a custom item lies, or why there is none.
-pub fn custom_value_place(s: &[u8], x: Record, index: usize) -> Part
+pub fn custom_value_place(s: &[u8], x: Record, index: usize) -> Result<Option<Part>, Refusal>
     ensures { told_part result ≡ field_answer (layout_of x) SealCustomValue index s.now }
 {
     fields::find(s, x, Field::SealCustomValue, index)
@@ -214,7 +215,7 @@ pub fn maker(s: &[u8], x: Record) -> &[u8]
 }
 
 // Where the maker's certificate lies, or why there is none.
-pub fn maker_place(s: &[u8], x: Record) -> Part
+pub fn maker_place(s: &[u8], x: Record) -> Result<Option<Part>, Refusal>
     ensures { told_part result ≡ field_answer (layout_of x) MakerCertificate 0 s.now }
 {
     fields::find(s, x, Field::MakerCertificate, 0)
@@ -228,7 +229,7 @@ pub fn algorithm(s: &[u8], x: Record) -> &[u8]
 }
 
 // Where the algorithm of the maker's signature lies, or why there is none.
-pub fn algorithm_place(s: &[u8], x: Record) -> Part
+pub fn algorithm_place(s: &[u8], x: Record) -> Result<Option<Part>, Refusal>
     ensures { told_part result ≡ field_answer (layout_of x) SealAlgorithm 0 s.now }
 {
     fields::find(s, x, Field::SealAlgorithm, 0)
@@ -242,7 +243,7 @@ pub fn signed_value(s: &[u8], x: Record) -> &[u8]
 }
 
 // Where the maker's signature lies, or why there is none.
-pub fn signed_value_place(s: &[u8], x: Record) -> Part
+pub fn signed_value_place(s: &[u8], x: Record) -> Result<Option<Part>, Refusal>
     ensures { told_part result ≡ field_answer (layout_of x) SealSignedValue 0 s.now }
 {
     fields::find(s, x, Field::SealSignedValue, 0)

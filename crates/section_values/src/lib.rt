@@ -5,44 +5,39 @@ ghost use Rattle.std.specs.Prelude.{◌≡◌};
 ghost use Rattle.layouts.specs.SheetScan.{value_at, flag_section_at};
 ghost use Rattle.primitives.specs.Primitive.{leaf_of};
 
-use heads::{Seen, Step};
+use heads::Span;
 use primitives::Primitive;
-use terms::BAD_SHEET;
+use terms::{Reason, Refusal};
 
 // How many bytes the section of an integer has.
 const INTEGER_BYTES: usize = 8;
 
 // The value in a section: of an integer those of its eight bytes that are needed, or 19 where it has not eight.
-pub fn value(s: &[u8], p: Primitive, at: usize, a: usize, z: usize) -> Seen
-    ensures { result ≡ value_at (leaf_of p).holds s.now at a z }
+pub fn value(s: &[u8], p: Primitive, at: usize, section: Span) -> Result<Span, Refusal>
+    ensures { result ≡ value_at (leaf_of p).holds s.now at section.start section.end }
 {
     if !hiding::is_number(p) {
-        return Seen::Item { start: a, end: z };
+        return Ok(section);
     }
-    let w = windows::window(s, a, z);
+    let w = windows::window(s, section.start, section.end);
     if w.len() != INTEGER_BYTES {
-        return Seen::Refused(BAD_SHEET, at);
+        return Err(Reason::BadSheet.at(at));
     }
-    Seen::Item {
-        start: a + (INTEGER_BYTES - numbers::needed(w)),
-        end: z,
-    }
+    Ok(Span {
+        start: section.start + (INTEGER_BYTES - numbers::needed(w)),
+        end: section.end,
+    })
 }
 
 // The section of critical: where what follows it starts, or 19 unless it is one byte 0 or 1.
-pub fn flag(s: &[u8], at: usize, end: usize) -> Step
+#[tactic(auto, unfolding(layouts::specs::SheetScan::flag_section_at, terms::specs::Answer::pick))]
+pub fn flag(s: &[u8], at: usize, end: usize) -> Result<usize, Refusal>
     ensures { result ≡ flag_section_at s.now at end }
 {
-    let h = counts::section(s, at, end);
-    let Seen::Item { start: a, end: z } = h else {
-        return edges::past(h);
-    };
-    let w = windows::window(s, a, z);
-    if windows::is_same(w, b"\x00") {
-        return Step::Next(z);
+    let section = counts::section(s, at, end)?;
+    let w = windows::window(s, section.start, section.end);
+    if windows::is_same(w, b"\x00") || windows::is_same(w, b"\x01") {
+        return Ok(section.end);
     }
-    if windows::is_same(w, b"\x01") {
-        return Step::Next(z);
-    }
-    Step::Refused(BAD_SHEET, at)
+    Err(Reason::BadSheet.at(at))
 }

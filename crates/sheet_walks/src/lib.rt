@@ -9,19 +9,16 @@ ghost use Rattle.structures.specs.Structure.{row_of, layout_of};
 ghost use Rattle.sheet_walks.specs.Walk.{member_walk, list_walk};
 
 use counts::COUNT_BYTES;
-use heads::{Seen, Step};
-use layouts::Tally;
-use rows::{MEMBERS, Member};
+use rows::Member;
 use structures::{Build, Row, Structure};
-use terms::BAD_SHEET;
+use terms::{Reason, Refusal};
 
 // An item's sections: where what follows them starts, or the first refusal in them.
 #[cycle(item_list_member_row)]
-fn item(s: &[u8], x: Structure, at: usize, end: usize) -> Step
+fn item(s: &[u8], x: Structure, at: usize, end: usize) -> Result<usize, Refusal>
     ensures { result ≡ sheet_scan (layout_of x) s.now at end }
 {
-    let b = structures::build_of(x);
-    match b {
+    match structures::build_of(x) {
         Build::Leaf(primitive) => edges::past(sections::leaf(s, primitive, at, end)),
         Build::Node(_, members) => row(s, members, at, end),
         Build::List {
@@ -31,11 +28,8 @@ fn item(s: &[u8], x: Structure, at: usize, end: usize) -> Step
             name: _,
             each,
         } => {
-            let c = counts::list_count(s, empty, most, at, end);
-            match c {
-                Tally::Refused(number, place) => Step::Refused(number, place),
-                Tally::Items(n) => list(s, each, n, at + COUNT_BYTES, end),
-            }
+            let n = counts::list_count(s, empty, most, at, end)?;
+            list(s, each, n, at + COUNT_BYTES, end)
         }
         Build::Wrap(_, y) => item(s, y, at, end),
     }
@@ -43,47 +37,35 @@ fn item(s: &[u8], x: Structure, at: usize, end: usize) -> Step
 
 // The members of a row, one after another, up to an end: where what follows them starts, or the first refusal in them.
 #[cycle(item_list_member_row)]
-fn row(s: &[u8], x: Row, at: usize, end: usize) -> Step
+fn row(s: &[u8], x: Row, at: usize, end: usize) -> Result<usize, Refusal>
     ensures { result ≡ sheet_scans (row_of x) s.now at end }
 {
     let members = rows::members_of(x);
     let mut p = at;
-    let mut k: usize = 0;
-    while k < MEMBERS {
-        let passed = member(s, members[k], p, end);
-        let Step::Next(q) = passed else {
-            return passed;
-        };
-        p = q;
-        k += 1;
+    for m in &members {
+        p = member(s, *m, p, end)?;
     }
-    Step::Next(p)
+    Ok(p)
 }
 
 // A member of a row; a known one has no section.
+// Kept: each case of the table takes arguments of its own.
 #[cycle(item_list_member_row)]
-fn member(s: &[u8], m: Member, at: usize, end: usize) -> Step
+fn member(s: &[u8], m: Member, at: usize, end: usize) -> Result<usize, Refusal>
     ensures { result ≡ member_walk m s.now at end }
 {
     match m {
-        Member::Blank => Step::Next(at),
-        Member::Known(_) => Step::Next(at),
+        Member::Blank => Ok(at),
+        Member::Known(_) => Ok(at),
         Member::Leaf(_, primitive) => edges::past(sections::leaf(s, primitive, at, end)),
         Member::Part(_, x) => item(s, x, at, end),
         Member::Maybe(_, x) => {
-            let c = counts::count(s, at, end);
-            match c {
-                Tally::Refused(number, place) => Step::Refused(number, place),
-                Tally::Items(n) => {
-                    let a = at + COUNT_BYTES;
-                    if n == 0 {
-                        return Step::Next(a);
-                    }
-                    if n == 1 {
-                        return item(s, x, a, end);
-                    }
-                    Step::Refused(BAD_SHEET, at)
-                }
+            let n = counts::count(s, at, end)?;
+            let a = at + COUNT_BYTES;
+            match n {
+                0 => Ok(a),
+                1 => item(s, x, a, end),
+                _ => Err(Reason::BadSheet.at(at)),
             }
         }
         Member::Flag(_) => section_values::flag(s, at, end),
@@ -95,46 +77,34 @@ fn member(s: &[u8], m: Member, at: usize, end: usize) -> Step
             first,
             second,
         } => {
-            let h = sections::leaf(s, primitive, at, end);
-            let Seen::Item { start: a, end: z } = h else {
-                return edges::past(h);
-            };
-            if answers::is_content(s, content, a, z) {
-                return item(s, first, z, end);
+            let value = sections::leaf(s, primitive, at, end)?;
+            if answers::is_content(s, content, value.start, value.end) {
+                return item(s, first, value.end, end);
             }
-            item(s, second, z, end)
+            item(s, second, value.end, end)
         }
     }
 }
 
 // So many items, one after another.
 #[cycle(item_list_member_row)]
-fn list(s: &[u8], x: Structure, n: usize, at: usize, end: usize) -> Step
+fn list(s: &[u8], x: Structure, n: usize, at: usize, end: usize) -> Result<usize, Refusal>
     ensures { result ≡ list_walk (layout_of x) n s.now at end }
 {
     let mut p = at;
-    let mut k = n;
-    while 0 < k {
-        let r = item(s, x, p, end);
-        let Step::Next(q) = r else {
-            return r;
-        };
-        p = q;
-        k -= 1;
+    for _ in 0..n {
+        p = item(s, x, p, end)?;
     }
-    Step::Next(p)
+    Ok(p)
 }
 
 // A sheet that is the whole input: its end, or the first refusal, 19 at the first byte left over.
-pub fn sheet(s: &[u8], x: Row) -> Step
+pub fn sheet(s: &[u8], x: Row) -> Result<usize, Refusal>
     ensures { result ≡ whole (length s.now) (accept_sheet (row_of x) s.now) }
 {
-    let r = row(s, x, 0, s.len());
-    let Step::Next(q) = r else {
-        return r;
-    };
+    let q = row(s, x, 0, s.len())?;
     if q < s.len() {
-        return Step::Refused(BAD_SHEET, q);
+        return Err(Reason::BadSheet.at(q));
     }
-    Step::Next(s.len())
+    Ok(s.len())
 }

@@ -1,20 +1,21 @@
 -- Filling a sheet and writing a record: what is sent is what the rules say. Assumes nothing.
-use Rattle.std.specs.Prelude.{◌≡◌, ℕ, ◌+◌, ◌*◌, ◌≤◌, ◌<◌, take, T, leb}
+use Rattle.std.specs.Prelude.{◌≡◌, ℕ, ◌+◌, ◌*◌, ◌≤◌, ◌<◌, take, T, leb, Ok, Err}
 use Rattle.std.proofs.Math.Path.{refl, ap}
 use Rattle.std.proofs.Common.{sym, ◌∙◌, zero-add, take_at, leb→le}
 use native.Mathlib.Omega.{arith}
-use mathlib.Core.List.{List, ◌++◌}
+use mathlib.Core.List.{List, [], ◌∷◌, ◌++◌}
 use Rattle.std.proofs.Math.ListN.{length, drop, length-append}
 use Rattle.std.proofs.Math.Seq.{slice, take-length}
 use Rattle.std.proofs.Math.Dec.{nleb→lt}
 use borrow.Author.Tests.{le-leb, lt-leb}
-use Rattle.terms.specs.Numbers.{too_large, no_room, bad_sheet, left_over, largest_record}
-use Rattle.terms.specs.Answer.{Res, good, fault, Got, got, bind, need, answered}
-use Rattle.terms.specs.Laws.Answer.{never, good_inj, by_bind, bind_eq, test}
+use Rattle.terms.specs.Numbers.{largest_record}
+use Rattle.terms.specs.declared.Reason.TheVariants.{LeftOver, BadSheet, TooLarge, NoRoom}
+use Rattle.terms.specs.Answer.{Res, good, fault, Got, got, bind, need, answered, refusal, refusal_at, Answer}
+use Rattle.terms.specs.Laws.Told.{told_refusal}
+use Rattle.terms.specs.Laws.Answer.{never, same_refusal, good_inj, by_bind, bind_eq, test}
+use Rattle.terms.specs.declared.Refusal.{Refusal}
 use Rattle.heads.specs.Head.{Cut, forms, head}
 use Rattle.heads.proofs.Laws.Head.{unspelled, outermost_back}
-use Rattle.heads.specs.declared.Step.{Step}
-use Rattle.heads.specs.declared.Step.TheVariants.{Next, Refused}
 use Rattle.layouts.specs.Layout.{Item, node, Members, Values, encode}
 use Rattle.layouts.specs.Reading.{next, read, reads}
 use Rattle.layouts.specs.Sheet.{sheet, sheets, fill, fills}
@@ -23,8 +24,6 @@ use Rattle.layouts.proofs.Laws.Reading.{clear, finish_back}
 use Rattle.layouts.proofs.Laws.Scan.{whole}
 use Rattle.layouts.proofs.Laws.Sheet.{short}
 use Rattle.layouts.proofs.Laws.Whole.{accept_back}
-use Rattle.layouts.specs.declared.Outcome.{Outcome}
-use Rattle.layouts.specs.declared.Outcome.TheVariants.{Length, Refused as Denied}
 use Rattle.records.specs.declared.Record.{Record}
 use Rattle.records.specs.declared.Record.TheVariants.{Seal, Signature}
 use Rattle.records.specs.Handing.{layout_of, told_record, fill_answer, fill_after, write_answer, write_after}
@@ -64,20 +63,20 @@ module _ (from to : Side) (i : Item) (s d : List ℕ) (most : ℕ) (m : most < c
       (λ k. let b = advance-small 0 (length (out from to i s)) (leb→le (0 + length (out from to i s)) cap (rw zero-add k)) in omega arith)
       (λ k. let e = nleb→lt (length (out from to i s)) cap k in omega arith)
 
-  pub send_large : most < n → (Denied too_large 0, d') ≡ ends (sent most (move from to i s 0 (length s)).1 (length d)) d
+  pub send_large : (r : Refusal) → r ≡ refusal_at TooLarge 0 → most < n → (Err r, d') ≡ ends (sent most (move from to i s 0 (length s)).1 (length d)) d
   unfolding ends sent stored need
-  send_large h = rw (lt-leb (length (out from to i s)) most (size_over h), fitted_large (move from to i s 0 (length s)) most d q n d' g h)
+  send_large r u h = rw (u, lt-leb (length (out from to i s)) most (size_over h), fitted_large (move from to i s 0 (length s)) most d q n d' g h)
 
-  pub send_short : length d' ≡ length d → n ≤ most → length d' < n → (Denied no_room n, d') ≡ ends (sent most (move from to i s 0 (length s)).1 (length d)) d
+  pub send_short : (r : Refusal) → r ≡ refusal_at NoRoom n → length d' ≡ length d → n ≤ most → length d' < n → (Err r, d') ≡ ends (sent most (move from to i s 0 (length s)).1 (length d)) d
   unfolding ends sent stored need fit
-  send_short l h k =
+  send_short r u l h k =
       let e : n ≡ length (out from to i s) = size_exact h in
       let a : length (out from to i s) ≤ most = omega arith in
       let j : length d < n = omega arith in
       let b : length d < length (out from to i s) = omega arith in
-      rw (le-leb (length (out from to i s)) most a, lt-leb (length (out from to i s)) (length d) b, fitted_short (move from to i s 0 (length s)) most d q n d' g h j, e) refl
+      rw (u, le-leb (length (out from to i s)) most a, lt-leb (length (out from to i s)) (length d) b, fitted_short (move from to i s 0 (length s)) most d q n d' g h j, e) refl
 
-  pub send_all : length d' ≡ length d → n ≤ most → n ≤ length d' → (Length n, d') ≡ ends (sent most (move from to i s 0 (length s)).1 (length d)) d
+  pub send_all : length d' ≡ length d → n ≤ most → n ≤ length d' → (Ok n, d') ≡ ends (sent most (move from to i s 0 (length s)).1 (length d)) d
   unfolding ends sent stored need fit
   send_all l h k =
       let e : n ≡ length (out from to i s) = size_exact h in
@@ -92,14 +91,14 @@ told-ends : (z : Res (List ℕ)) → told_outcome (outcome_of z) ≡ answered (�
 told-ends (good x) = refl
 told-ends (fault n p) = refl
 
-module _ (y : Outcome) (d' d : List ℕ) (z : Res (List ℕ)) (h : (y, d') ≡ ends z d) where
+module _ (y : Answer ℕ) (d' d : List ℕ) (z : Res (List ℕ)) (h : (y, d') ≡ ends z d) where
   ends-told : told_outcome y ≡ answered (λ x. length x) z
   unfolding ends
-  ends-told = ap (λ (w : Outcome × List ℕ). told_outcome w.0) h ∙ told-ends z
+  ends-told = ap (λ (w : Answer ℕ × List ℕ). told_outcome w.0) h ∙ told-ends z
 
   ends-stored : d' ≡ stored z d
   unfolding ends
-  ends-stored = ap (λ (w : Outcome × List ℕ). w.1) h
+  ends-stored = ap (λ (w : Answer ℕ × List ℕ). w.1) h
 
 -- ---- a record read, then sent
 
@@ -126,7 +125,7 @@ unfolding accept record_at fill_sheet sent need
 sheet-sent r s k v h room =
     by_bind _ _ _ h λ x e₁ e₂. by_bind _ _ _ e₁ λ c e₃ e₄. by_bind _ _ _ e₄ λ y e₅ e₆.
     let w : slice 0 (length s) s ≡ s = take-length s in
-    let g : y ≡ v = ap (λ (a : Got (Values r)). a.value) (good_inj e₆) ∙ (finish_back left_over x v e₂).1 in
+    let g : y ≡ v = ap (λ (a : Got (Values r)). a.value) (good_inj e₆) ∙ (finish_back LeftOver x v e₂).1 in
     let z : read (node sequence r) (slice 0 (length s) s) 0 ≡ good (got y c.rest (next c)) = rw w (node_read r s c y (outermost_back largest_record sequence s 0 c e₃).0 e₅) in
     let m : (move side.Record side.Sheet (node sequence r) s 0 (length s)).1 ≡ sheets r v =
     ap (λ (q : Moved). q.1) (move_read s side.Sheet (node sequence r) 0 (length s) (omega arith) (omega arith) (got y c.rest (next c)) z) ∙ node_sheet r y ∙ ap (sheets r) g in
@@ -136,28 +135,24 @@ sheet-sent r s k v h room =
     let f : length (sheets r v) ≤ 4294967295 = omega arith in
     rw (m, le-leb (length (sheets r v)) 4294967295 f) (sym (bind_eq _ h))
 
-module _ (x : Record) (s d : List ℕ) (m : Members) (i : m ≡ layout_of x) (o : Outcome) (t : told_outcome o ≡ told_record largest_record m s) where
-  unread : (n p : ℕ) → o ≡ Denied n p → accept largest_record (layout_of x) s ≡ fault n p
-  unread n p h = go (accept largest_record (layout_of x) s) (rw (i, h) at t)
-    where
-      go : (a : Res (Values (layout_of x))) → told_outcome (Denied n p) ≡ answered (λ v. length s) a → a ≡ fault n p
-      go (good v) e = never (cc)
-      go (fault n' p') e = cc
+module _ (x : Record) (s d : List ℕ) (m : Members) (i : m ≡ layout_of x) (o : Answer ℕ) (t : told_outcome o ≡ told_record largest_record m s) where
+  unread : (r : Refusal) → o ≡ Err r → accept largest_record (layout_of x) s ≡ fault r.reason r.place
+  unread r h = told_refusal (λ v. length s) r (accept largest_record (layout_of x) s) (rw (i, h) at t)
 
-  pub fill_refused : (n p : ℕ) → o ≡ Denied n p → told_outcome o ≡ fill_answer (layout_of x) s d
+  pub fill_refused : (r : Refusal) → o ≡ Err r → told_outcome (Err r) ≡ fill_answer (layout_of x) s d
   unfolding fill_answer fill_sheet bind
-  fill_refused n p h = rw (unread n p h, h)
+  fill_refused r h = rw (unread r h) refl
 
-  pub fill_kept : (n p : ℕ) → o ≡ Denied n p → d ≡ fill_after (layout_of x) s d
+  pub fill_kept : (r : Refusal) → o ≡ Err r → d ≡ fill_after (layout_of x) s d
   unfolding fill_after fill_sheet bind stored
-  fill_kept n p h = rw (unread n p h)
+  fill_kept r h = rw (unread r h) refl
 
-  module _ (l : ℕ) (h : o ≡ Length l) (j : Item) (k : j ≡ node sequence (layout_of x)) (y : Outcome) (d' : List ℕ)
+  module _ (l : ℕ) (h : o ≡ Ok l) (j : Item) (k : j ≡ node sequence (layout_of x)) (y : Answer ℕ) (d' : List ℕ)
       (e : (y, d') ≡ ends (sent 4294967295 (move side.Record side.Sheet j s 0 (length s)).1 (length d)) d) where
     filled : sent 4294967295 (move side.Record side.Sheet j s 0 (length s)).1 (length d) ≡ fill_sheet largest_record (layout_of x) s (length d)
     filled = go (accept largest_record (layout_of x) s) refl (rw (i, h) at t)
       where
-        go : (a : Res (Values (layout_of x))) → accept largest_record (layout_of x) s ≡ a → told_outcome (Length l) ≡ answered (λ v. length s) a
+        go : (a : Res (Values (layout_of x))) → accept largest_record (layout_of x) s ≡ a → told_outcome (Ok l) ≡ answered (λ v. length s) a
             → sent 4294967295 (move side.Record side.Sheet j s 0 (length s)).1 (length d) ≡ fill_sheet largest_record (layout_of x) s (length d)
         go (good v) a u = rw k (sheet-sent (layout_of x) s (both_clear x) v a (length d))
         go (fault n p) a u = never (cc)
@@ -188,31 +183,31 @@ record_sent r s v h room =
     by_bind _ _ _ h λ a e₁ e₂.
     let w : slice 0 (length s) s ≡ s = take-length s in
     let m : (move side.Sheet side.Record (node sequence r) s 0 (length s)).1 ≡ record_of r v =
-    ap (λ (q : Moved). q.1) (move_fill s side.Record (node sequence r) 0 (length s) (omega arith) (omega arith) a (node_fill r (slice 0 (length s) s) a (rw w e₁))) ∙ node_record r a.value ∙ ap (record_of r) (finish_back bad_sheet a v e₂).1 in
+    ap (λ (q : Moved). q.1) (move_fill s side.Record (node sequence r) 0 (length s) (omega arith) (omega arith) a (node_fill r (slice 0 (length s) s) a (rw w e₁))) ∙ node_record r a.value ∙ ap (record_of r) (finish_back BadSheet a v e₂).1 in
     rw m (sym (bind_eq _ h))
 
-module _ (x : Record) (s d : List ℕ) (m : Members) (i : m ≡ layout_of x) (o : Step) (t : o ≡ whole (length s) (accept_sheet m s)) where
-  untaken : (n p : ℕ) → o ≡ Refused n p → accept_sheet (layout_of x) s ≡ fault n p
-  untaken n p h = go (accept_sheet (layout_of x) s) (sym h ∙ (rw i at t))
+module _ (x : Record) (s d : List ℕ) (m : Members) (i : m ≡ layout_of x) (o : Answer ℕ) (t : o ≡ whole (length s) (accept_sheet m s)) where
+  untaken : (r : Refusal) → o ≡ Err r → accept_sheet (layout_of x) s ≡ fault r.reason r.place
+  untaken r h = go (accept_sheet (layout_of x) s) (sym h ∙ (rw i at t))
     where
-      go : (a : Res (Values (layout_of x))) → Refused n p ≡ whole (length s) a → a ≡ fault n p
+      go : (a : Res (Values (layout_of x))) → Err r ≡ whole (length s) a → a ≡ fault r.reason r.place
       go (good v) e = never (cc)
-      go (fault n' p') e = cc
+      go (fault n p) e = let g : r ≡ refusal_at n p = same_refusal e in rw g refl
 
-  pub write_refused : (n p : ℕ) → o ≡ Refused n p → told_outcome (Denied n p) ≡ write_answer (layout_of x) s d
+  pub write_refused : (r : Refusal) → o ≡ Err r → told_outcome (Err r) ≡ write_answer (layout_of x) s d
   unfolding write_answer write_record bind
-  write_refused n p h = rw (untaken n p h)
+  write_refused r h = rw (untaken r h) refl
 
-  pub write_kept : (n p : ℕ) → o ≡ Refused n p → d ≡ write_after (layout_of x) s d
+  pub write_kept : (r : Refusal) → o ≡ Err r → d ≡ write_after (layout_of x) s d
   unfolding write_after write_record bind stored
-  write_kept n p h = rw (untaken n p h)
+  write_kept r h = rw (untaken r h) refl
 
-  module _ (l : ℕ) (h : o ≡ Next l) (j : Item) (k : j ≡ node sequence (layout_of x)) (y : Outcome) (d' : List ℕ)
+  module _ (l : ℕ) (h : o ≡ Ok l) (j : Item) (k : j ≡ node sequence (layout_of x)) (y : Answer ℕ) (d' : List ℕ)
       (e : (y, d') ≡ ends (sent largest_record (move side.Sheet side.Record j s 0 (length s)).1 (length d)) d) where
     written : sent largest_record (move side.Sheet side.Record j s 0 (length s)).1 (length d) ≡ write_record largest_record (layout_of x) s (length d)
     written = go (accept_sheet (layout_of x) s) refl (sym h ∙ (rw i at t))
       where
-        go : (a : Res (Values (layout_of x))) → accept_sheet (layout_of x) s ≡ a → Next l ≡ whole (length s) a
+        go : (a : Res (Values (layout_of x))) → accept_sheet (layout_of x) s ≡ a → Ok l ≡ whole (length s) a
             → sent largest_record (move side.Sheet side.Record j s 0 (length s)).1 (length d) ≡ write_record largest_record (layout_of x) s (length d)
         go (good v) a u = rw k (record_sent (layout_of x) s v a (length d))
         go (fault n p) a u = never (cc)
@@ -225,17 +220,9 @@ module _ (x : Record) (s d : List ℕ) (m : Members) (i : m ≡ layout_of x) (o 
     unfolding write_after
     write_stored = ends-stored y d' d _ e ∙ ap (λ (z : Res (List ℕ)). stored z d) written
 
--- ---- the item that a record is
-
-pub item_seal : (x : Record) → x ≡ Seal → item_of structure.Seal ≡ node sequence (layout_of x)
-item_seal x i = rw i
-
-pub item_signature : (x : Record) → x ≡ Signature → item_of structure.Signature ≡ node sequence (layout_of x)
-item_signature x i = rw i
-
 -- ---- what was sent stands in its destination
 
-pub sent_good : (y : Res (List ℕ)) (n : ℕ) → told_outcome (Length n) ≡ answered (λ x. length x) y → (x : List ℕ) × (y ≡ good x) × (n ≡ length x)
+pub sent_good : (y : Res (List ℕ)) (n : ℕ) → told_outcome (Ok n) ≡ answered (λ x. length x) y → (x : List ℕ) × (y ≡ good x) × (n ≡ length x)
 sent_good (good x) n h = (x, refl, cc)
 sent_good (fault m q) n h = never (cc)
 
@@ -249,7 +236,7 @@ module _ (y : Res (List ℕ)) (d d₁ : List ℕ) (n : ℕ) (x : List ℕ) (h : 
   front-room = let e = ap length (k ∙ ap (λ (z : Res (List ℕ)). stored z d) h) ∙ length-append x (drop (length x) d) in omega arith
 
 -- the sheet that was filled, and its room
-module _ (r : Members) (s d : List ℕ) (o : Outcome) (t : told_outcome o ≡ fill_answer r s d) (n : ℕ) (h : o ≡ Length n) where
+module _ (r : Members) (s d : List ℕ) (o : Answer ℕ) (t : told_outcome o ≡ fill_answer r s d) (n : ℕ) (h : o ≡ Ok n) where
   pub sheet-there : (z : List ℕ) × (fill_sheet largest_record r s (length d) ≡ good z) × (n ≡ length z)
   unfolding fill_answer
   sheet-there = sent_good _ n (rw h at t)

@@ -1,143 +1,53 @@
-// The labels of the fields, as docs/FIELDS.md has them: a row for each name, in the order of the names, filled up with spaces.
-// A table is proved in seconds, a match with a text for each name in minutes.
-use terms::NAMES;
+// The labels of the fields, as docs/FIELDS.md has them: in English the words of the fields' names, in Chinese those of GB/T 38540-2020.
+use crate::words::Text;
+use terms::Field;
 
-// The bytes of a row, as many as the longest label has.
-pub const ROW: usize = 33;
-
-// The labels in English: the words of the fields' names.
-pub const ENGLISH: [[u8; ROW]; NAMES] = [
-    *b"seal information                 ",
-    *b"header                           ",
-    *b"vendor                           ",
-    *b"seal id                          ",
-    *b"property                         ",
-    *b"seal type                        ",
-    *b"seal name                        ",
-    *b"list kind                        ",
-    *b"certificate list                 ",
-    *b"listed certificate               ",
-    *b"listed entry                     ",
-    *b"listed type                      ",
-    *b"listed digest                    ",
-    *b"created                          ",
-    *b"start                            ",
-    *b"end                              ",
-    *b"picture                          ",
-    *b"picture type                     ",
-    *b"picture data                     ",
-    *b"width                            ",
-    *b"height                           ",
-    *b"seal custom data                 ",
-    *b"seal custom item                 ",
-    *b"seal custom id                   ",
-    *b"seal custom critical             ",
-    *b"seal custom value                ",
-    *b"maker certificate                ",
-    *b"seal algorithm                   ",
-    *b"seal signed value                ",
-    *b"signed part                      ",
-    *b"seal                             ",
-    *b"signing time                     ",
-    *b"original digest                  ",
-    *b"property text                    ",
-    *b"signed custom data               ",
-    *b"signed custom item               ",
-    *b"signed custom id                 ",
-    *b"signed custom critical           ",
-    *b"signed custom value              ",
-    *b"signer certificate               ",
-    *b"signature algorithm              ",
-    *b"signature value                  ",
-    *b"stamp                            ",
-];
-
-// The labels in Chinese: the words of GB/T 38540-2020.
-pub const CHINESE: [[u8; ROW]; NAMES] = [
-    // 印章信息
-    *b"\xe5\x8d\xb0\xe7\xab\xa0\xe4\xbf\xa1\xe6\x81\xaf                     ",
-    // 印章头
-    *b"\xe5\x8d\xb0\xe7\xab\xa0\xe5\xa4\xb4                        ",
-    // 厂商标识
-    *b"\xe5\x8e\x82\xe5\x95\x86\xe6\xa0\x87\xe8\xaf\x86                     ",
-    // 印章标识
-    *b"\xe5\x8d\xb0\xe7\xab\xa0\xe6\xa0\x87\xe8\xaf\x86                     ",
-    // 印章属性
-    *b"\xe5\x8d\xb0\xe7\xab\xa0\xe5\xb1\x9e\xe6\x80\xa7                     ",
-    // 印章类型
-    *b"\xe5\x8d\xb0\xe7\xab\xa0\xe7\xb1\xbb\xe5\x9e\x8b                     ",
-    // 印章名称
-    *b"\xe5\x8d\xb0\xe7\xab\xa0\xe5\x90\x8d\xe7\xa7\xb0                     ",
-    // 签章者证书信息类型
-    *b"\xe7\xad\xbe\xe7\xab\xa0\xe8\x80\x85\xe8\xaf\x81\xe4\xb9\xa6\xe4\xbf\xa1\xe6\x81\xaf\xe7\xb1\xbb\xe5\x9e\x8b      ",
-    // 签章者证书信息列表
-    *b"\xe7\xad\xbe\xe7\xab\xa0\xe8\x80\x85\xe8\xaf\x81\xe4\xb9\xa6\xe4\xbf\xa1\xe6\x81\xaf\xe5\x88\x97\xe8\xa1\xa8      ",
-    // 签章者证书
-    *b"\xe7\xad\xbe\xe7\xab\xa0\xe8\x80\x85\xe8\xaf\x81\xe4\xb9\xa6                  ",
-    // 签章者证书杂凑值
-    *b"\xe7\xad\xbe\xe7\xab\xa0\xe8\x80\x85\xe8\xaf\x81\xe4\xb9\xa6\xe6\x9d\x82\xe5\x87\x91\xe5\x80\xbc         ",
-    // 自定义类型
-    *b"\xe8\x87\xaa\xe5\xae\x9a\xe4\xb9\x89\xe7\xb1\xbb\xe5\x9e\x8b                  ",
-    // 证书杂凑值
-    *b"\xe8\xaf\x81\xe4\xb9\xa6\xe6\x9d\x82\xe5\x87\x91\xe5\x80\xbc                  ",
-    // 印章制作时间
-    *b"\xe5\x8d\xb0\xe7\xab\xa0\xe5\x88\xb6\xe4\xbd\x9c\xe6\x97\xb6\xe9\x97\xb4               ",
-    // 印章有效期起始时间
-    *b"\xe5\x8d\xb0\xe7\xab\xa0\xe6\x9c\x89\xe6\x95\x88\xe6\x9c\x9f\xe8\xb5\xb7\xe5\xa7\x8b\xe6\x97\xb6\xe9\x97\xb4      ",
-    // 印章有效期终止时间
-    *b"\xe5\x8d\xb0\xe7\xab\xa0\xe6\x9c\x89\xe6\x95\x88\xe6\x9c\x9f\xe7\xbb\x88\xe6\xad\xa2\xe6\x97\xb6\xe9\x97\xb4      ",
-    // 印章图像数据
-    *b"\xe5\x8d\xb0\xe7\xab\xa0\xe5\x9b\xbe\xe5\x83\x8f\xe6\x95\xb0\xe6\x8d\xae               ",
-    // 图像类型
-    *b"\xe5\x9b\xbe\xe5\x83\x8f\xe7\xb1\xbb\xe5\x9e\x8b                     ",
-    // 图像数据
-    *b"\xe5\x9b\xbe\xe5\x83\x8f\xe6\x95\xb0\xe6\x8d\xae                     ",
-    // 图像显示宽度
-    *b"\xe5\x9b\xbe\xe5\x83\x8f\xe6\x98\xbe\xe7\xa4\xba\xe5\xae\xbd\xe5\xba\xa6               ",
-    // 图像显示高度
-    *b"\xe5\x9b\xbe\xe5\x83\x8f\xe6\x98\xbe\xe7\xa4\xba\xe9\xab\x98\xe5\xba\xa6               ",
-    // 自定义数据
-    *b"\xe8\x87\xaa\xe5\xae\x9a\xe4\xb9\x89\xe6\x95\xb0\xe6\x8d\xae                  ",
-    // 自定义属性字段
-    *b"\xe8\x87\xaa\xe5\xae\x9a\xe4\xb9\x89\xe5\xb1\x9e\xe6\x80\xa7\xe5\xad\x97\xe6\xae\xb5            ",
-    // 自定义扩展字段标识
-    *b"\xe8\x87\xaa\xe5\xae\x9a\xe4\xb9\x89\xe6\x89\xa9\xe5\xb1\x95\xe5\xad\x97\xe6\xae\xb5\xe6\xa0\x87\xe8\xaf\x86      ",
-    // 自定义扩展字段是否关键
-    *b"\xe8\x87\xaa\xe5\xae\x9a\xe4\xb9\x89\xe6\x89\xa9\xe5\xb1\x95\xe5\xad\x97\xe6\xae\xb5\xe6\x98\xaf\xe5\x90\xa6\xe5\x85\xb3\xe9\x94\xae",
-    // 自定义扩展字段数据值
-    *b"\xe8\x87\xaa\xe5\xae\x9a\xe4\xb9\x89\xe6\x89\xa9\xe5\xb1\x95\xe5\xad\x97\xe6\xae\xb5\xe6\x95\xb0\xe6\x8d\xae\xe5\x80\xbc   ",
-    // 制章者证书
-    *b"\xe5\x88\xb6\xe7\xab\xa0\xe8\x80\x85\xe8\xaf\x81\xe4\xb9\xa6                  ",
-    // 签名算法标识
-    *b"\xe7\xad\xbe\xe5\x90\x8d\xe7\xae\x97\xe6\xb3\x95\xe6\xa0\x87\xe8\xaf\x86               ",
-    // 签名值
-    *b"\xe7\xad\xbe\xe5\x90\x8d\xe5\x80\xbc                        ",
-    // 签章信息
-    *b"\xe7\xad\xbe\xe7\xab\xa0\xe4\xbf\xa1\xe6\x81\xaf                     ",
-    // 电子印章
-    *b"\xe7\x94\xb5\xe5\xad\x90\xe5\x8d\xb0\xe7\xab\xa0                     ",
-    // 签章时间
-    *b"\xe7\xad\xbe\xe7\xab\xa0\xe6\x97\xb6\xe9\x97\xb4                     ",
-    // 原文杂凑值
-    *b"\xe5\x8e\x9f\xe6\x96\x87\xe6\x9d\x82\xe5\x87\x91\xe5\x80\xbc                  ",
-    // 原文数据的属性
-    *b"\xe5\x8e\x9f\xe6\x96\x87\xe6\x95\xb0\xe6\x8d\xae\xe7\x9a\x84\xe5\xb1\x9e\xe6\x80\xa7            ",
-    // 自定义数据
-    *b"\xe8\x87\xaa\xe5\xae\x9a\xe4\xb9\x89\xe6\x95\xb0\xe6\x8d\xae                  ",
-    // 自定义属性字段
-    *b"\xe8\x87\xaa\xe5\xae\x9a\xe4\xb9\x89\xe5\xb1\x9e\xe6\x80\xa7\xe5\xad\x97\xe6\xae\xb5            ",
-    // 自定义扩展字段标识
-    *b"\xe8\x87\xaa\xe5\xae\x9a\xe4\xb9\x89\xe6\x89\xa9\xe5\xb1\x95\xe5\xad\x97\xe6\xae\xb5\xe6\xa0\x87\xe8\xaf\x86      ",
-    // 自定义扩展字段是否关键
-    *b"\xe8\x87\xaa\xe5\xae\x9a\xe4\xb9\x89\xe6\x89\xa9\xe5\xb1\x95\xe5\xad\x97\xe6\xae\xb5\xe6\x98\xaf\xe5\x90\xa6\xe5\x85\xb3\xe9\x94\xae",
-    // 自定义扩展字段数据值
-    *b"\xe8\x87\xaa\xe5\xae\x9a\xe4\xb9\x89\xe6\x89\xa9\xe5\xb1\x95\xe5\xad\x97\xe6\xae\xb5\xe6\x95\xb0\xe6\x8d\xae\xe5\x80\xbc   ",
-    // 签章者证书
-    *b"\xe7\xad\xbe\xe7\xab\xa0\xe8\x80\x85\xe8\xaf\x81\xe4\xb9\xa6                  ",
-    // 签名算法标识
-    *b"\xe7\xad\xbe\xe5\x90\x8d\xe7\xae\x97\xe6\xb3\x95\xe6\xa0\x87\xe8\xaf\x86               ",
-    // 签名值
-    *b"\xe7\xad\xbe\xe5\x90\x8d\xe5\x80\xbc                        ",
-    // 对签名值的时间戳
-    *b"\xe5\xaf\xb9\xe7\xad\xbe\xe5\x90\x8d\xe5\x80\xbc\xe7\x9a\x84\xe6\x97\xb6\xe9\x97\xb4\xe6\x88\xb3         ",
-];
+// The label of a field.
+// Kept: a match of names, so that a label cannot stand beside another field's number.
+pub(crate) fn label_of(f: Field) -> Text {
+    match f {
+        Field::SealInformation => Text("seal information", "印章信息"),
+        Field::Header => Text("header", "印章头"),
+        Field::Vendor => Text("vendor", "厂商标识"),
+        Field::SealId => Text("seal id", "印章标识"),
+        Field::Property => Text("property", "印章属性"),
+        Field::SealType => Text("seal type", "印章类型"),
+        Field::SealName => Text("seal name", "印章名称"),
+        Field::ListKind => Text("list kind", "签章者证书信息类型"),
+        Field::CertificateList => Text("certificate list", "签章者证书信息列表"),
+        Field::ListedCertificate => Text("listed certificate", "签章者证书"),
+        Field::ListedEntry => Text("listed entry", "签章者证书杂凑值"),
+        Field::ListedType => Text("listed type", "自定义类型"),
+        Field::ListedDigest => Text("listed digest", "证书杂凑值"),
+        Field::Created => Text("created", "印章制作时间"),
+        Field::Start => Text("start", "印章有效期起始时间"),
+        Field::End => Text("end", "印章有效期终止时间"),
+        Field::Picture => Text("picture", "印章图像数据"),
+        Field::PictureType => Text("picture type", "图像类型"),
+        Field::PictureData => Text("picture data", "图像数据"),
+        Field::Width => Text("width", "图像显示宽度"),
+        Field::Height => Text("height", "图像显示高度"),
+        Field::SealCustomData => Text("seal custom data", "自定义数据"),
+        Field::SealCustomItem => Text("seal custom item", "自定义属性字段"),
+        Field::SealCustomId => Text("seal custom id", "自定义扩展字段标识"),
+        Field::SealCustomCritical => Text("seal custom critical", "自定义扩展字段是否关键"),
+        Field::SealCustomValue => Text("seal custom value", "自定义扩展字段数据值"),
+        Field::MakerCertificate => Text("maker certificate", "制章者证书"),
+        Field::SealAlgorithm => Text("seal algorithm", "签名算法标识"),
+        Field::SealSignedValue => Text("seal signed value", "签名值"),
+        Field::SignedPart => Text("signed part", "签章信息"),
+        Field::Seal => Text("seal", "电子印章"),
+        Field::SigningTime => Text("signing time", "签章时间"),
+        Field::OriginalDigest => Text("original digest", "原文杂凑值"),
+        Field::PropertyText => Text("property text", "原文数据的属性"),
+        Field::SignedCustomData => Text("signed custom data", "自定义数据"),
+        Field::SignedCustomItem => Text("signed custom item", "自定义属性字段"),
+        Field::SignedCustomId => Text("signed custom id", "自定义扩展字段标识"),
+        Field::SignedCustomCritical => Text("signed custom critical", "自定义扩展字段是否关键"),
+        Field::SignedCustomValue => Text("signed custom value", "自定义扩展字段数据值"),
+        Field::SignerCertificate => Text("signer certificate", "签章者证书"),
+        Field::SignatureAlgorithm => Text("signature algorithm", "签名算法标识"),
+        Field::SignatureValue => Text("signature value", "签名值"),
+        Field::Stamp => Text("stamp", "对签名值的时间戳"),
+    }
+}

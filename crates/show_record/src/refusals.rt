@@ -1,66 +1,61 @@
-// Each refusal's number in words, as docs/NUMBERS.md has them: a row for each number of a record's refusals, from 1 on, filled up with spaces.
+// Each reason of a refusal in words, as docs/NUMBERS.md has them.
+use crate::words::Text;
+use terms::Reason;
 
-// How many numbers there are.
-pub const NUMBERS: usize = 17;
-
-// The bytes of a row, as many as the longest has.
-pub const ROW: usize = 107;
-
-// The numbers in English.
-pub const ENGLISH: [[u8; ROW]; NUMBERS] = [
-    *b"an item is missing: what encloses it, or the input, ends where it must begin                               ",
-    *b"another item stands there: its tag is not the required one                                                 ",
-    *b"the length is missing, cut off, or not in its one allowed form                                             ",
-    *b"the item has more bytes than what encloses it, or the input, has left                                      ",
-    *b"bytes are left after the last item                                                                         ",
-    *b"an integer is empty, has more than 8 bytes or is not in its shortest form                                  ",
-    *b"a version that is not 4, a list kind that is not 1 or 2, a width or height that is not 1 to 65,535         ",
-    *b"the header's name is not \"ES\"                                                                              ",
-    *b"a byte is outside the string's alphabet, or no UTF-8                                                       ",
-    *b"a time is not fourteen digits and Z, or no real date and time                                              ",
-    *b"an identifier is empty, has more than 64 bytes, a part that begins with 80 or a last part that does not end",
-    *b"a bit string is empty, or its first byte is not 00                                                         ",
-    *b"critical is there and is not FF alone                                                                      ",
-    *b"a string that needs a byte has none                                                                        ",
-    *b"the certificate list has no item                                                                           ",
-    *b"a list has a 65th item                                                                                     ",
-    *b"the record claims more than 65,535 bytes, header included                                                  ",
-];
-
-// The numbers in Chinese.
-pub const CHINESE: [[u8; ROW]; NUMBERS] = [
-    // 缺少一项：外层结构或输入在该项应当开始之处已经结束
-    *b"\xe7\xbc\xba\xe5\xb0\x91\xe4\xb8\x80\xe9\xa1\xb9\xef\xbc\x9a\xe5\xa4\x96\xe5\xb1\x82\xe7\xbb\x93\xe6\x9e\x84\xe6\x88\x96\xe8\xbe\x93\xe5\x85\xa5\xe5\x9c\xa8\xe8\xaf\xa5\xe9\xa1\xb9\xe5\xba\x94\xe5\xbd\x93\xe5\xbc\x80\xe5\xa7\x8b\xe4\xb9\x8b\xe5\xa4\x84\xe5\xb7\xb2\xe7\xbb\x8f\xe7\xbb\x93\xe6\x9d\x9f                                ",
-    // 此处是另外一项：其标签不是所要求的标签
-    *b"\xe6\xad\xa4\xe5\xa4\x84\xe6\x98\xaf\xe5\x8f\xa6\xe5\xa4\x96\xe4\xb8\x80\xe9\xa1\xb9\xef\xbc\x9a\xe5\x85\xb6\xe6\xa0\x87\xe7\xad\xbe\xe4\xb8\x8d\xe6\x98\xaf\xe6\x89\x80\xe8\xa6\x81\xe6\xb1\x82\xe7\x9a\x84\xe6\xa0\x87\xe7\xad\xbe                                                  ",
-    // 长度缺失、被截断，或者不是唯一允许的形式
-    *b"\xe9\x95\xbf\xe5\xba\xa6\xe7\xbc\xba\xe5\xa4\xb1\xe3\x80\x81\xe8\xa2\xab\xe6\x88\xaa\xe6\x96\xad\xef\xbc\x8c\xe6\x88\x96\xe8\x80\x85\xe4\xb8\x8d\xe6\x98\xaf\xe5\x94\xaf\xe4\xb8\x80\xe5\x85\x81\xe8\xae\xb8\xe7\x9a\x84\xe5\xbd\xa2\xe5\xbc\x8f                                               ",
-    // 该项的字节数超过外层结构或输入所剩余的字节数
-    *b"\xe8\xaf\xa5\xe9\xa1\xb9\xe7\x9a\x84\xe5\xad\x97\xe8\x8a\x82\xe6\x95\xb0\xe8\xb6\x85\xe8\xbf\x87\xe5\xa4\x96\xe5\xb1\x82\xe7\xbb\x93\xe6\x9e\x84\xe6\x88\x96\xe8\xbe\x93\xe5\x85\xa5\xe6\x89\x80\xe5\x89\xa9\xe4\xbd\x99\xe7\x9a\x84\xe5\xad\x97\xe8\x8a\x82\xe6\x95\xb0                                         ",
-    // 最后一项之后还有多余的字节
-    *b"\xe6\x9c\x80\xe5\x90\x8e\xe4\xb8\x80\xe9\xa1\xb9\xe4\xb9\x8b\xe5\x90\x8e\xe8\xbf\x98\xe6\x9c\x89\xe5\xa4\x9a\xe4\xbd\x99\xe7\x9a\x84\xe5\xad\x97\xe8\x8a\x82                                                                    ",
-    // 整数为空、超过8个字节，或者不是最短形式
-    *b"\xe6\x95\xb4\xe6\x95\xb0\xe4\xb8\xba\xe7\xa9\xba\xe3\x80\x81\xe8\xb6\x85\xe8\xbf\x878\xe4\xb8\xaa\xe5\xad\x97\xe8\x8a\x82\xef\xbc\x8c\xe6\x88\x96\xe8\x80\x85\xe4\xb8\x8d\xe6\x98\xaf\xe6\x9c\x80\xe7\x9f\xad\xe5\xbd\xa2\xe5\xbc\x8f                                                 ",
-    // 版本号不是4，或者证书信息类型不是1或2，或者宽度、高度不在1至65535之间
-    *b"\xe7\x89\x88\xe6\x9c\xac\xe5\x8f\xb7\xe4\xb8\x8d\xe6\x98\xaf4\xef\xbc\x8c\xe6\x88\x96\xe8\x80\x85\xe8\xaf\x81\xe4\xb9\xa6\xe4\xbf\xa1\xe6\x81\xaf\xe7\xb1\xbb\xe5\x9e\x8b\xe4\xb8\x8d\xe6\x98\xaf1\xe6\x88\x962\xef\xbc\x8c\xe6\x88\x96\xe8\x80\x85\xe5\xae\xbd\xe5\xba\xa6\xe3\x80\x81\xe9\xab\x98\xe5\xba\xa6\xe4\xb8\x8d\xe5\x9c\xa81\xe8\x87\xb365535\xe4\xb9\x8b\xe9\x97\xb4        ",
-    // 头标识不是“ES”
-    *b"\xe5\xa4\xb4\xe6\xa0\x87\xe8\xaf\x86\xe4\xb8\x8d\xe6\x98\xaf\xe2\x80\x9cES\xe2\x80\x9d                                                                                    ",
-    // 字符串中有不属于其字符集的字节，或者不是UTF-8编码
-    *b"\xe5\xad\x97\xe7\xac\xa6\xe4\xb8\xb2\xe4\xb8\xad\xe6\x9c\x89\xe4\xb8\x8d\xe5\xb1\x9e\xe4\xba\x8e\xe5\x85\xb6\xe5\xad\x97\xe7\xac\xa6\xe9\x9b\x86\xe7\x9a\x84\xe5\xad\x97\xe8\x8a\x82\xef\xbc\x8c\xe6\x88\x96\xe8\x80\x85\xe4\xb8\x8d\xe6\x98\xafUTF-8\xe7\xbc\x96\xe7\xa0\x81                                    ",
-    // 时间不是十四位数字加Z，或者不是真实的日期和时间
-    *b"\xe6\x97\xb6\xe9\x97\xb4\xe4\xb8\x8d\xe6\x98\xaf\xe5\x8d\x81\xe5\x9b\x9b\xe4\xbd\x8d\xe6\x95\xb0\xe5\xad\x97\xe5\x8a\xa0Z\xef\xbc\x8c\xe6\x88\x96\xe8\x80\x85\xe4\xb8\x8d\xe6\x98\xaf\xe7\x9c\x9f\xe5\xae\x9e\xe7\x9a\x84\xe6\x97\xa5\xe6\x9c\x9f\xe5\x92\x8c\xe6\x97\xb6\xe9\x97\xb4                                     ",
-    // 对象标识符为空、超过64个字节、有以80开头的部分，或者最后一部分没有结束
-    *b"\xe5\xaf\xb9\xe8\xb1\xa1\xe6\xa0\x87\xe8\xaf\x86\xe7\xac\xa6\xe4\xb8\xba\xe7\xa9\xba\xe3\x80\x81\xe8\xb6\x85\xe8\xbf\x8764\xe4\xb8\xaa\xe5\xad\x97\xe8\x8a\x82\xe3\x80\x81\xe6\x9c\x89\xe4\xbb\xa580\xe5\xbc\x80\xe5\xa4\xb4\xe7\x9a\x84\xe9\x83\xa8\xe5\x88\x86\xef\xbc\x8c\xe6\x88\x96\xe8\x80\x85\xe6\x9c\x80\xe5\x90\x8e\xe4\xb8\x80\xe9\x83\xa8\xe5\x88\x86\xe6\xb2\xa1\xe6\x9c\x89\xe7\xbb\x93\xe6\x9d\x9f    ",
-    // 比特串为空，或者其首字节不是00
-    *b"\xe6\xaf\x94\xe7\x89\xb9\xe4\xb8\xb2\xe4\xb8\xba\xe7\xa9\xba\xef\xbc\x8c\xe6\x88\x96\xe8\x80\x85\xe5\x85\xb6\xe9\xa6\x96\xe5\xad\x97\xe8\x8a\x82\xe4\xb8\x8d\xe6\x98\xaf00                                                               ",
-    // 是否关键一项存在，但不是单独的FF
-    *b"\xe6\x98\xaf\xe5\x90\xa6\xe5\x85\xb3\xe9\x94\xae\xe4\xb8\x80\xe9\xa1\xb9\xe5\xad\x98\xe5\x9c\xa8\xef\xbc\x8c\xe4\xbd\x86\xe4\xb8\x8d\xe6\x98\xaf\xe5\x8d\x95\xe7\x8b\xac\xe7\x9a\x84FF                                                            ",
-    // 至少需要一个字节的字符串没有字节
-    *b"\xe8\x87\xb3\xe5\xb0\x91\xe9\x9c\x80\xe8\xa6\x81\xe4\xb8\x80\xe4\xb8\xaa\xe5\xad\x97\xe8\x8a\x82\xe7\x9a\x84\xe5\xad\x97\xe7\xac\xa6\xe4\xb8\xb2\xe6\xb2\xa1\xe6\x9c\x89\xe5\xad\x97\xe8\x8a\x82                                                           ",
-    // 证书信息列表中没有任何一项
-    *b"\xe8\xaf\x81\xe4\xb9\xa6\xe4\xbf\xa1\xe6\x81\xaf\xe5\x88\x97\xe8\xa1\xa8\xe4\xb8\xad\xe6\xb2\xa1\xe6\x9c\x89\xe4\xbb\xbb\xe4\xbd\x95\xe4\xb8\x80\xe9\xa1\xb9                                                                    ",
-    // 列表中有第65项
-    *b"\xe5\x88\x97\xe8\xa1\xa8\xe4\xb8\xad\xe6\x9c\x89\xe7\xac\xac65\xe9\xa1\xb9                                                                                       ",
-    // 记录声明的字节数（含头部）超过65535
-    *b"\xe8\xae\xb0\xe5\xbd\x95\xe5\xa3\xb0\xe6\x98\x8e\xe7\x9a\x84\xe5\xad\x97\xe8\x8a\x82\xe6\x95\xb0\xef\xbc\x88\xe5\x90\xab\xe5\xa4\xb4\xe9\x83\xa8\xef\xbc\x89\xe8\xb6\x85\xe8\xbf\x8765535                                                         ",
-];
+// A reason in words; one for which no record is refused has none.
+pub(crate) fn words_of(reason: Reason) -> Option<Text> {
+    let text = match reason {
+        Reason::ItemMissing => Text(
+            "an item is missing: what encloses it, or the input, ends where it must begin",
+            "缺少一项：外层结构或输入在该项应当开始之处已经结束",
+        ),
+        Reason::OtherTag => Text(
+            "another item stands there: its tag is not the required one",
+            "此处是另外一项：其标签不是所要求的标签",
+        ),
+        Reason::BadLength => Text(
+            "the length is missing, cut off, or not in its one allowed form",
+            "长度缺失、被截断，或者不是唯一允许的形式",
+        ),
+        Reason::PastEnd => Text(
+            "the item has more bytes than what encloses it, or the input, has left",
+            "该项的字节数超过外层结构或输入所剩余的字节数",
+        ),
+        Reason::LeftOver => Text("bytes are left after the last item", "最后一项之后还有多余的字节"),
+        Reason::BadInteger => Text(
+            "an integer is empty, has more than 8 bytes or is not in its shortest form",
+            "整数为空、超过8个字节，或者不是最短形式",
+        ),
+        Reason::NotAllowed => Text(
+            "a version that is not 4, a list kind that is not 1 or 2, a width or height that is not 1 to 65,535",
+            "版本号不是4，或者证书信息类型不是1或2，或者宽度、高度不在1至65535之间",
+        ),
+        Reason::NotEs => Text("the header's name is not \"ES\"", "头标识不是“ES”"),
+        Reason::BadCharacter => Text(
+            "a byte is outside the string's alphabet, or no UTF-8",
+            "字符串中有不属于其字符集的字节，或者不是UTF-8编码",
+        ),
+        Reason::BadTime => Text(
+            "a time is not fourteen digits and Z, or no real date and time",
+            "时间不是十四位数字加Z，或者不是真实的日期和时间",
+        ),
+        Reason::BadIdentifier => Text(
+            "an identifier is empty, has more than 64 bytes, a part that begins with 80 or a last part that does not end",
+            "对象标识符为空、超过64个字节、有以80开头的部分，或者最后一部分没有结束",
+        ),
+        Reason::BadBits => Text(
+            "a bit string is empty, or its first byte is not 00",
+            "比特串为空，或者其首字节不是00",
+        ),
+        Reason::BadBoolean => Text("critical is there and is not FF alone", "是否关键一项存在，但不是单独的FF"),
+        Reason::NoBytes => Text("a string that needs a byte has none", "至少需要一个字节的字符串没有字节"),
+        Reason::NoItem => Text("the certificate list has no item", "证书信息列表中没有任何一项"),
+        Reason::TooManyItems => Text("a list has a 65th item", "列表中有第65项"),
+        Reason::TooLarge => Text(
+            "the record claims more than 65,535 bytes, header included",
+            "记录声明的字节数（含头部）超过65535",
+        ),
+        Reason::UnrealTime | Reason::BadSheet | Reason::NoRoom => return None,
+    };
+    Some(text)
+}

@@ -1,19 +1,16 @@
 -- An item at a position of a source, a record or a sheet: where what follows it starts, and its bytes in the destination's form. Assumes nothing.
 -- Nobody has to believe this page: `Laws.Move` proves what it is of a source that is accepted. Of any other it says something, and nobody asks.
-use Rattle.std.specs.Prelude.{ℕ, suc, zero, ◌+◌, Bool, true, false, not, List, [], ◌∷◌, ◌++◌, length, ltb, eqb}
+use Rattle.std.specs.Prelude.{ℕ, suc, zero, ◌+◌, Bool, true, false, not, List, [], ◌∷◌, ◌++◌, length, ltb, eqb, Ok, Err}
 use Rattle.std.proofs.Math.Seq.{slice}
-use Rattle.terms.specs.Answer.{pick, same}
+use Rattle.terms.specs.Answer.{pick, same, Answer}
 use Rattle.heads.specs.Head.{forms, octets}
-use Rattle.heads.specs.Scan.{head_at, begins_at}
-use Rattle.heads.specs.declared.Seen.{Seen}
-use Rattle.heads.specs.declared.Seen.TheVariants.{Item as At, Refused as Bad}
+use Rattle.heads.specs.Scan.{head_at, begins_at, span}
+use Rattle.heads.specs.declared.Span.{Span as ItemSpan}
 use Rattle.contents.specs.Leaves.{Leaf, section_of, boolean, Known, only}
 use Rattle.layouts.specs.Layout.{Item, leaf, node, list, wrap, Members, end, ◌▸◌, Member, known, one, maybe, flag, choose, tag_of, Value, Values, Part, encode_leaf, critical, encode, encodes, encode_part}
 use Rattle.layouts.specs.Sheet.{count_bytes, count, section, critical_byte, sheet, sheets, sheet_part}
-use Rattle.layouts.specs.Scan.{then_judge}
+use Rattle.layouts.specs.Scan.{then_seen}
 use Rattle.layouts.specs.SheetScan.{count_at, section_at, value_at as inSection}
-use Rattle.layouts.specs.declared.Tally.{Tally}
-use Rattle.layouts.specs.declared.Tally.TheVariants.{Items, Refused as Uncounted}
 use Rattle.sides.specs.declared.Side.{Side}
 use Rattle.sides.specs.declared.Side.TheVariants.{Record, Sheet}
 
@@ -38,23 +35,23 @@ abbrev pub Span : Type 0
 Span = ℕ × ℕ
 
 -- the content that was found at a position; of a refused one nothing
-abbrev pub span_of : ℕ → Seen → Span
-span_of p (At a z) = (a, z)
-span_of p (Bad n q) = (p, p)
+abbrev pub span_of : ℕ → Answer ItemSpan → Span
+span_of p (Ok i) = (i.start, i.end)
+span_of p (Err e) = (p, p)
 
 -- the value of a primitive item, which ends where the item does: in a content behind what stands before it
 unfoldable pub span_at : Side → Leaf → List ℕ → ℕ → ℕ → Span
-span_at Record l s p e = span_of p (then_judge (head_at l.tag s p e) λ a z. At (a + length l.front) z)
-span_at Sheet l s p e = span_of p (then_judge (section_at s p e) λ a z. inSection l.holds s p a z)
+span_at Record l s p e = span_of p (then_seen (head_at l.tag s p e) λ a z. Ok (span (a + length l.front) z))
+span_at Sheet l s p e = span_of p (then_seen (section_at s p e) λ a z. inSection l.holds s p a z)
 
 -- its bytes
 unfoldable pub value_at : Side → Leaf → List ℕ → ℕ → ℕ → List ℕ
 value_at from l s p e = slice (span_at from l s p e).0 (span_at from l s p e).1 s
 
 -- a count that was found at a position, and where what it counts starts; of a refused one nothing
-abbrev pub count_of : ℕ → Tally → ℕ × ℕ
-count_of p (Items n) = (n, p + count_bytes)
-count_of p (Uncounted n q) = (0, p)
+abbrev pub count_of : ℕ → Answer ℕ → ℕ × ℕ
+count_of p (Ok n) = (n, p + count_bytes)
+count_of p (Err e) = (0, p)
 
 -- what stands in an item: the count of a list in a sheet, where it starts, and where its window ends
 abbrev pub Opened : Type 0

@@ -1,7 +1,7 @@
 // The forms in which values stand: a record or a sheet.
 #![tactic(auto)]
 
-#[derive(Clone, Copy)]
+#[derive(Clone, Copy, PartialEq, Eq, Debug)]
 pub enum Side {
     Record,
     Sheet,

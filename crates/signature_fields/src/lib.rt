@@ -1,5 +1,6 @@
 // The fields of a signature record by name, without its seal's: each the part of the lent record that it is, and, beside it, where that part lies
 // or why there is none.
+// Kept: an accessor for each field by its name, as the rules ask and docs/FIELDS.md lists them; what they share is one function.
 #![tactic(auto)]
 
 ghost use Rattle.std.specs.Prelude.{◌≡◌};
@@ -9,7 +10,7 @@ ghost use Rattle.records.specs.Handing.{field_in, field_answer, handed_out, told
 ghost use Rattle.records.specs.Part.{PartOf};
 
 use records::{Part, Record};
-use terms::Field;
+use terms::{Field, Refusal};
 
 // What the signer signed: the signed part, with its own tag and length.
 pub fn signed_bytes(s: &[u8]) -> &[u8]
@@ -19,7 +20,7 @@ pub fn signed_bytes(s: &[u8]) -> &[u8]
 }
 
 // Where what the signer signed lies, or why there is none.
-pub fn signed_bytes_place(s: &[u8]) -> Part
+pub fn signed_bytes_place(s: &[u8]) -> Result<Option<Part>, Refusal>
     ensures { told_part result ≡ field_answer signature SignedPart 0 s.now }
 {
     fields::find(s, Record::Signature, Field::SignedPart, 0)
@@ -33,7 +34,7 @@ pub fn signing_time(s: &[u8]) -> &[u8]
 }
 
 // Where the time of signing lies, or why there is none.
-pub fn signing_time_place(s: &[u8]) -> Part
+pub fn signing_time_place(s: &[u8]) -> Result<Option<Part>, Refusal>
     ensures { told_part result ≡ field_answer signature SigningTime 0 s.now }
 {
     fields::find(s, Record::Signature, Field::SigningTime, 0)
@@ -47,7 +48,7 @@ pub fn original_digest(s: &[u8]) -> &[u8]
 }
 
 // Where the digest of the original lies, or why there is none.
-pub fn original_digest_place(s: &[u8]) -> Part
+pub fn original_digest_place(s: &[u8]) -> Result<Option<Part>, Refusal>
     ensures { told_part result ≡ field_answer signature OriginalDigest 0 s.now }
 {
     fields::find(s, Record::Signature, Field::OriginalDigest, 0)
@@ -61,7 +62,7 @@ pub fn property_text(s: &[u8]) -> &[u8]
 }
 
 // Where the property text lies, or why there is none.
-pub fn property_text_place(s: &[u8]) -> Part
+pub fn property_text_place(s: &[u8]) -> Result<Option<Part>, Refusal>
     ensures { told_part result ≡ field_answer signature PropertyText 0 s.now }
 {
     fields::find(s, Record::Signature, Field::PropertyText, 0)
@@ -75,7 +76,7 @@ pub fn custom_id(s: &[u8], index: usize) -> &[u8]
 }
 
 // Where the identifier of a custom item lies, or why there is none.
-pub fn custom_id_place(s: &[u8], index: usize) -> Part
+pub fn custom_id_place(s: &[u8], index: usize) -> Result<Option<Part>, Refusal>
     ensures { told_part result ≡ field_answer signature SignedCustomId index s.now }
 {
     fields::find(s, Record::Signature, Field::SignedCustomId, index)
@@ -89,7 +90,7 @@ pub fn custom_value(s: &[u8], index: usize) -> &[u8]
 }
 
 // Where the value of a custom item lies, or why there is none.
-pub fn custom_value_place(s: &[u8], index: usize) -> Part
+pub fn custom_value_place(s: &[u8], index: usize) -> Result<Option<Part>, Refusal>
     ensures { told_part result ≡ field_answer signature SignedCustomValue index s.now }
 {
     fields::find(s, Record::Signature, Field::SignedCustomValue, index)
@@ -103,7 +104,7 @@ pub fn signer(s: &[u8]) -> &[u8]
 }
 
 // Where the signer's certificate lies, or why there is none.
-pub fn signer_place(s: &[u8]) -> Part
+pub fn signer_place(s: &[u8]) -> Result<Option<Part>, Refusal>
     ensures { told_part result ≡ field_answer signature SignerCertificate 0 s.now }
 {
     fields::find(s, Record::Signature, Field::SignerCertificate, 0)
@@ -117,7 +118,7 @@ pub fn algorithm(s: &[u8]) -> &[u8]
 }
 
 // Where the algorithm of the signature lies, or why there is none.
-pub fn algorithm_place(s: &[u8]) -> Part
+pub fn algorithm_place(s: &[u8]) -> Result<Option<Part>, Refusal>
     ensures { told_part result ≡ field_answer signature SignatureAlgorithm 0 s.now }
 {
     fields::find(s, Record::Signature, Field::SignatureAlgorithm, 0)
@@ -131,7 +132,7 @@ pub fn value(s: &[u8]) -> &[u8]
 }
 
 // Where the signature lies, or why there is none.
-pub fn value_place(s: &[u8]) -> Part
+pub fn value_place(s: &[u8]) -> Result<Option<Part>, Refusal>
     ensures { told_part result ≡ field_answer signature SignatureValue 0 s.now }
 {
     fields::find(s, Record::Signature, Field::SignatureValue, 0)
@@ -145,7 +146,7 @@ pub fn stamp(s: &[u8]) -> &[u8]
 }
 
 // Where the stamp lies, or why there is none.
-pub fn stamp_place(s: &[u8]) -> Part
+pub fn stamp_place(s: &[u8]) -> Result<Option<Part>, Refusal>
     ensures { told_part result ≡ field_answer signature Stamp 0 s.now }
 {
     fields::find(s, Record::Signature, Field::Stamp, 0)

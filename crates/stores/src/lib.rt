@@ -8,13 +8,11 @@ ghost use Rattle.stores.specs.Store.{bump as bumpOf, advance, puts, room_for};
 const CAP: usize = 4294967296;
 
 // The position after a byte.
+#[tactic(auto, unfolding(crate::specs::Store::bump, terms::specs::Answer::pick))]
 fn bump(o: usize) -> usize
     ensures { result ≡ bumpOf o }
 {
-    if o < CAP {
-        return o + 1;
-    }
-    o
+    if o < CAP { o + 1 } else { o }
 }
 
 // The position after so many bytes.
@@ -22,22 +20,19 @@ pub fn add(o: usize, n: usize) -> usize
     ensures { result ≡ advance o n }
 {
     if CAP <= o {
-        return o;
+        o
+    } else {
+        o.saturating_add(n).min(CAP)
     }
-    if CAP - o <= n {
-        return CAP;
-    }
-    o + n
 }
 
 // One byte.
 pub fn put(dst: &mut [u8], o: usize, b: u8) -> usize
     ensures { (result, dst.new) ≡ puts (b ∷ []) dst.old o }
 {
-    if dst.len() <= o {
-        return bump(o);
+    if o < dst.len() {
+        dst[o] = b;
     }
-    dst[o] = b;
     bump(o)
 }
 
@@ -46,23 +41,16 @@ pub fn repeated(dst: &mut [u8], o: usize, b: u8, n: usize) -> usize
     ensures { (result, dst.new) ≡ puts (replicate n b) dst.old o }
 {
     let mut p = o;
-    let mut k = n;
-    while 0 < k {
+    for _ in 0..n {
         p = put(dst, p, b);
-        k -= 1;
     }
     p
 }
 
 // Whether `n` bytes have room from a position on in a destination of `size` bytes, all of it before positions stop.
+#[tactic(auto, unfolding(crate::specs::Store::room_for))]
 pub fn has_room(size: usize, o: usize, n: usize) -> bool
     ensures { result ≡ room_for size o n }
 {
-    if CAP < size {
-        return false;
-    }
-    if size < o {
-        return false;
-    }
-    n <= size - o
+    size <= CAP && o <= size && n <= size - o
 }

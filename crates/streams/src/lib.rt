@@ -1,65 +1,52 @@
-// A program's input: a reader's bytes, into a buffer.
+// A program's input: a reader's bytes, into a buffer, and what is answered to them.
 #![tactic(auto)]
 
-ghost use Rattle.std.specs.Prelude.{◌≡◌, ◌≤◌, length, take};
-ghost use Rattle.streams.specs.Input.{Reads, Filled, Gives, Taken};
+ghost use Rattle.std.specs.Prelude.{Ok};
+ghost use Rattle.std.specs.Fn.{FnOnceReturnsAt};
+ghost use Rattle.streams.specs.Input.{Filled, Taken, Answered};
 
 use std::io;
+use std::process::ExitCode;
 
-// What one read came to: so many bytes, the end of the input, or a failure.
-#[derive(Clone, Copy)]
-enum Read {
-    More(usize),
-    End,
-    Failed(io::Error),
-}
+// The bytes of the largest record, and one more: what follows those changes no answer.
+const ROOM: usize = 65536;
 
-// What reading the input came to: so many bytes, or a read that failed.
-#[derive(Clone, Copy)]
-pub enum Input {
-    Bytes(usize),
-    Failed(io::Error),
-}
-
-// One read into a buffer from a position on.
-fn read_some<R: io::Read>(reader: &mut R, buf: &mut [u8], at: usize) -> Read
-    requires { at ≤ length buf.old }
-    ensures reads { Reads result at (length buf.old) }
-    ensures gives { Gives (R.remaining reader.old) (R.remaining reader.new) result at buf.new }
-    ensures before_unchanged { take at buf.new ≡ take at buf.old }
-    ensures buf_len_unchanged { length buf.new ≡ length buf.old }
-{
-    match reader.read(&mut buf[at..]) {
-        Ok(n) => {
-            if n == 0 {
-                return Read::End;
-            }
-            Read::More(n)
-        }
-        Err(e) => Read::Failed(e),
-    }
-}
-
-// Reads into a buffer until it is full, the input ends or a read fails.
-fn read_into<R: io::Read>(reader: &mut R, buf: &mut [u8]) -> Input
+// Reads into a buffer until it is full, the input ends or a read fails, and answers how many bytes it read.
+#[tactic(auto, using(crate::proofs::Filling::read_more))]
+pub fn fill<R: io::Read>(reader: &mut R, buf: &mut [u8]) -> io::Result<usize>
     ensures filled { Filled result buf.new }
     ensures taken { Taken (R.remaining reader.old) (R.remaining reader.new) result buf.new }
 {
     let mut n = 0;
+    // Kept: how far a turn goes is the reader's to say, so no range or iterator counts the turns.
     while n < buf.len() {
-        match read_some(reader, buf, n) {
-            Read::More(k) => n += k,
-            Read::End => return Input::Bytes(n),
-            Read::Failed(e) => return Input::Failed(e),
+        let k = reader.read(&mut buf[n..])?;
+        if k == 0 {
+            return Ok(n);
         }
+        n += k;
     }
-    Input::Bytes(n)
+    Ok(n)
 }
 
-// Fills a buffer, which has room for the largest record and one byte more, until it is full, the input ends or a read fails.
-pub fn fill<R: io::Read>(reader: &mut R, buf: &mut [u8; 65536]) -> Input
-    ensures filled { Filled result buf.new }
-    ensures taken { Taken (R.remaining reader.old) (R.remaining reader.new) result buf.new }
+// Reads the input and hands it to what answers it, or says on standard error why it cannot be read.
+pub fn run<R: io::Read, F: FnOnce(&[u8]) -> io::Result<()>>(
+    rt: &impl Eprint,
+    reader: &mut R,
+    answer: F,
+) -> io::Result<ExitCode>
+    requires { F.IsAlwaysCallable answer }
+    ensures { Answered (R.remaining reader.old) (R.remaining reader.new) ROOM result (λ bytes. FnOnceReturnsAt F.FnOnce answer bytes (Ok tt)) }
 {
-    read_into(reader, buf)
+    let mut input = [0u8; ROOM];
+    match fill(reader, &mut input) {
+        Ok(n) => {
+            answer(&input[..n])?;
+            Ok(ExitCode::SUCCESS)
+        }
+        Err(e) => {
+            eprintln!(rt; "read: {e}")?;
+            Ok(ExitCode::FAILURE)
+        }
+    }
 }

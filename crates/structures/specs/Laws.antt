@@ -56,3 +56,7 @@ row_back x =
 
 pub row_one : (x y : Row) → row_of x ≡ row_of y → x ≡ y
 row_one x y e = let f : some x ≡ some y = sym (row_back x) ∙ ap (λ (r : Members). row_in rows (first_in r)) e ∙ row_back y in cc
+
+-- by the case of an enum
+pub built : (x y : Structure) (b : Build) → x ≡ y → layout_of y ≡ item_of b → layout_of x ≡ item_of b
+built x y b i h = rw i h

@@ -76,6 +76,7 @@ pub fn row_of(x: Record) -> Row
 }
 
 // How each is built.
+#[tactic(auto, using(crate::specs::Laws::built))]
 pub fn build_of(x: Structure) -> Build
     ensures { layout_of x ≡ item_of result }
 {
@@ -129,17 +130,10 @@ pub fn build_of(x: Structure) -> Build
 pub fn tag_of(x: Structure) -> Tag
     ensures { tag_byte result ≡ tag_of (layout_of x) }
 {
-    let b = build_of(x);
-    match b {
+    match build_of(x) {
         Build::Leaf(p) => primitives::tag_of(p),
         Build::Node(t, _) => t,
-        Build::List {
-            tag,
-            empty: _,
-            most: _,
-            name: _,
-            each: _,
-        } => tag,
+        Build::List { tag, .. } => tag,
         Build::Wrap(t, _) => t,
     }
 }

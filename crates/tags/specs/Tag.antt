@@ -1,9 +1,7 @@
 -- Tags and their bytes. Assumes nothing.
-use Rattle.std.specs.Prelude.{◌≡◌, ℕ}
+use Rattle.std.specs.Prelude.{◌≡◌, ℕ, Option, Some, None}
 use Rattle.tags.specs.declared.Tag.{Tag}
 use Rattle.tags.specs.declared.Tag.TheVariants.{Boolean, Integer, BitString, OctetString, Identifier, Utf8String, PrintableString, Ia5String, Time, Sequence, Context0}
-use Rattle.tags.specs.declared.Tagged.{Tagged}
-use Rattle.tags.specs.declared.Tagged.TheVariants.{Known, Other}
 
 abbrev pub tag_byte : Tag → ℕ
 tag_byte Boolean = 0x01
@@ -19,6 +17,6 @@ tag_byte Sequence = 0x30
 tag_byte Context0 = 0xA0
 
 -- what is said of a byte is true of it
-abbrev pub Tells : ℕ → Tagged → Type 0
-Tells b (Known t) = b ≡ tag_byte t
-Tells b Other = (t : Tag) → b ≡ tag_byte t → ⊥
+abbrev pub Tells : ℕ → Option Tag → Type 0
+Tells b (Some t) = b ≡ tag_byte t
+Tells b None = (t : Tag) → b ≡ tag_byte t → ⊥

@@ -5,7 +5,7 @@ ghost use Rattle.std.specs.Prelude.{◌≡◌};
 ghost use Rattle.tags.specs.Tag.{tag_byte, Tells};
 
 // The tags of the rules.
-#[derive(Clone, Copy)]
+#[derive(Clone, Copy, PartialEq, Eq, Debug)]
 pub enum Tag {
     Boolean,
     Integer,
@@ -18,13 +18,6 @@ pub enum Tag {
     Time,
     Sequence,
     Context0,
-}
-
-// What a tag byte is: one of the rules' tags, or another.
-#[derive(Clone, Copy)]
-pub enum Tagged {
-    Known(Tag),
-    Other,
 }
 
 // The byte of a tag.
@@ -46,22 +39,22 @@ pub fn tag_byte(t: Tag) -> u8
     }
 }
 
-// The tag of a byte.
-pub fn tag_of(b: u8) -> Tagged
+// The tag of a byte, if it is one of the rules'.
+pub fn tag_of(b: u8) -> Option<Tag>
     ensures { Tells b result }
 {
     match b {
-        0x01 => Tagged::Known(Tag::Boolean),
-        0x02 => Tagged::Known(Tag::Integer),
-        0x03 => Tagged::Known(Tag::BitString),
-        0x04 => Tagged::Known(Tag::OctetString),
-        0x06 => Tagged::Known(Tag::Identifier),
-        0x0c => Tagged::Known(Tag::Utf8String),
-        0x13 => Tagged::Known(Tag::PrintableString),
-        0x16 => Tagged::Known(Tag::Ia5String),
-        0x18 => Tagged::Known(Tag::Time),
-        0x30 => Tagged::Known(Tag::Sequence),
-        0xa0 => Tagged::Known(Tag::Context0),
-        _ => Tagged::Other,
+        0x01 => Some(Tag::Boolean),
+        0x02 => Some(Tag::Integer),
+        0x03 => Some(Tag::BitString),
+        0x04 => Some(Tag::OctetString),
+        0x06 => Some(Tag::Identifier),
+        0x0c => Some(Tag::Utf8String),
+        0x13 => Some(Tag::PrintableString),
+        0x16 => Some(Tag::Ia5String),
+        0x18 => Some(Tag::Time),
+        0x30 => Some(Tag::Sequence),
+        0xa0 => Some(Tag::Context0),
+        _ => None,
     }
 }

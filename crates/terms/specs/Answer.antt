@@ -1,12 +1,14 @@
 -- An answer or a refusal, and how two readings are joined. Assumes nothing.
-use Rattle.std.specs.Prelude.{ℕ, Bool, true, false, ◌&&◌, List, [], ◌∷◌, eqb, ℤ, pos}
+use Rattle.std.specs.Prelude.{ℕ, Bool, true, false, ◌&&◌, List, [], ◌∷◌, eqb, ℤ, pos, Result, Err}
 use Rattle.std.proofs.Math.Option.{Option, none, some}
-use Rattle.terms.specs.Numbers.{done}
+use Rattle.terms.specs.Numbers.{reason_number, done}
+use Rattle.terms.specs.declared.Reason.{Reason}
+use Rattle.terms.specs.declared.Refusal.{Refusal}
 
--- what was read, or the refusal's number and place
+-- what was read, or why it is refused and where
 pub data Res (A : Type 0) : Type 0 where
   good : A → Res A
-  fault : ℕ → ℕ → Res A
+  fault : Reason → ℕ → Res A
 
 -- an item read at the start of a window: its value, what stands after it, and the offset of that
 pub record Got (A : Type 0) : Type 0 where
@@ -32,13 +34,13 @@ abbrev pub unread : {A B : Type 0} → Res A → B → (A → B) → B
 unread (good a) x k = k a
 unread (fault n p) x k = x
 
--- go on if the test holds, else refuse with a number and a place
-unfoldable pub need : {A : Type 0} → Bool → ℕ → ℕ → Res A → Res A
+-- go on if the test holds, else refuse, for a reason and at a place
+unfoldable pub need : {A : Type 0} → Bool → Reason → ℕ → Res A → Res A
 need true n p r = r
 need false n p r = fault n p
 
 -- go on with what is there, else refuse
-unfoldable pub have : {A : Type 0} → Option A → ℕ → ℕ → Res A
+unfoldable pub have : {A : Type 0} → Option A → Reason → ℕ → Res A
 have (some a) n p = good a
 have none n p = fault n p
 
@@ -68,11 +70,24 @@ same (x ∷ xs) [] = false
 same (x ∷ xs) (y ∷ ys) = eqb x y && same xs ys
 
 -- what was read, if nothing is left after it; else the refusal: "bytes left after the last item; place: the first"
-unfoldable pub finish : {A : Type 0} → ℕ → Got A → Res A
+unfoldable pub finish : {A : Type 0} → Reason → Got A → Res A
 finish n a = need (same a.rest []) n a.after (good a.value)
 
+-- ---- as code answers
+
+abbrev pub Answer : Type 0 → Type 0
+Answer A = Result A Refusal
+
+abbrev pub refusal_at : Reason → ℕ → Refusal
+refusal_at n p = record { reason = n; place = p }
+
+abbrev pub refused : {A : Type 0} → Reason → ℕ → Answer A
+refused n p = Err (refusal_at n p)
+
+-- ---- as it is told
+
 -- An answer in the paper's terms, its number and its values: what was done, found or judged; or a refusal, its place the first value where it has one.
--- Each enum that is an answer to a caller has a definition into this type.
+-- Each type that is an answer to a caller has a definition into this one.
 pub data Told : Type 0 where
   gives : ℕ → List ℤ → Told
   refuses : ℕ → List ℤ → Told
@@ -86,8 +101,8 @@ told_one n x = gives n (pos x ∷ [])
 abbrev pub told_two : ℕ → ℕ → ℕ → Told
 told_two n x y = gives n (pos x ∷ pos y ∷ [])
 
-abbrev pub refusal : ℕ → ℕ → Told
-refusal n p = refuses n (pos p ∷ [])
+abbrev pub refusal : Reason → ℕ → Told
+refusal n p = refuses (reason_number n) (pos p ∷ [])
 
 abbrev pub bit : Bool → ℕ
 bit true = 1

@@ -2,3 +2,4 @@ pub mod Answer
 pub mod Digits
 pub mod Table
 pub mod Names
+pub mod Told

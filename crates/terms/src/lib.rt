@@ -1,8 +1,15 @@
-// What a seal and a signature record hold, by name: the seal's parts in the order of a seal, then the signature record's.
-// A list's items are counted by an index beside the name.
+// The names and the numbers of the rules: a record's fields, and why something is refused.
 #![tactic(auto)]
 
-#[derive(Clone, Copy)]
+ghost use Rattle.std.specs.Prelude.{◌≡◌};
+ghost use Rattle.terms.specs.Numbers.{reason_number};
+ghost use Rattle.terms.specs.Answer.{refusal_at};
+
+use std::fmt;
+
+// What a seal and a signature record hold, by name: the seal's parts in the order of a seal, then the signature record's.
+// A list's items are counted by an index beside the name.
+#[derive(Clone, Copy, PartialEq, Eq, Debug)]
 pub enum Field {
     SealInformation,
     Header,
@@ -52,44 +59,65 @@ pub enum Field {
 // How many names there are.
 pub const NAMES: usize = 43;
 
-// The numbers of refusals, by the names that `Numbers` has for them; every answer that cites one is proved to be its number.
-pub const ITEM_MISSING: u8 = 1;
+// Why something is refused, in the order of the rules' numbers.
+#[derive(Clone, Copy, PartialEq, Eq, Debug)]
+pub enum Reason {
+    ItemMissing = 1,
+    OtherTag,
+    BadLength,
+    PastEnd,
+    LeftOver,
+    BadInteger,
+    NotAllowed,
+    NotEs,
+    BadCharacter,
+    BadTime,
+    BadIdentifier,
+    BadBits,
+    BadBoolean,
+    NoBytes,
+    NoItem,
+    TooManyItems,
+    TooLarge,
+    UnrealTime,
+    BadSheet,
+    NoRoom,
+}
 
-pub const OTHER_TAG: u8 = 2;
+impl Reason {
+    // The number that the rules give it.
+    pub fn number(self) -> u8
+        ensures { result ≡ reason_number self }
+    {
+        self as u8
+    }
 
-pub const BAD_LENGTH: u8 = 3;
+    // A refusal for this reason, at a place.
+    pub fn at(self, place: usize) -> Refusal
+        ensures { result ≡ refusal_at self place }
+    {
+        Refusal {
+            reason: self,
+            place,
+        }
+    }
+}
 
-pub const PAST_END: u8 = 4;
+// A refusal: why, and where.
+#[derive(Clone, Copy, PartialEq, Eq, Debug)]
+pub struct Refusal {
+    pub reason: Reason,
+    pub place: usize,
+}
 
-pub const LEFT_OVER: u8 = 5;
-
-pub const BAD_INTEGER: u8 = 6;
-
-pub const NOT_ALLOWED: u8 = 7;
-
-pub const NOT_ES: u8 = 8;
-
-pub const BAD_CHARACTER: u8 = 9;
-
-pub const BAD_TIME: u8 = 10;
-
-pub const BAD_IDENTIFIER: u8 = 11;
-
-pub const BAD_BITS: u8 = 12;
-
-pub const BAD_BOOLEAN: u8 = 13;
-
-pub const NO_BYTES: u8 = 14;
-
-pub const NO_ITEM: u8 = 15;
-
-pub const TOO_MANY_ITEMS: u8 = 16;
-
-pub const TOO_LARGE: u8 = 17;
-
-pub const BAD_SHEET: u8 = 19;
-
-pub const NO_ROOM: u8 = 20;
+// The number and the place, as they stand on a line.
+impl fmt::Display for Refusal {
+    fn fmt<W: fmt::Write>(&self, f: &mut fmt::Formatter<W>) -> fmt::Result {
+        let number = self.reason.number();
+        let place = self.place;
+        write!(f, "{number} {place}")
+    }
+}
 
 // The most bytes of a record, header included.
 pub const LARGEST_RECORD: usize = 65535;

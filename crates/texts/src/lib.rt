@@ -8,8 +8,7 @@ ghost use Rattle.contents.specs.Leaves.{header_name, known_rule};
 ghost use Rattle.contents.specs.Scan.{checked_at};
 ghost use Rattle.texts.specs.Text.{characters_of};
 
-use contents::Checked;
-use terms::{BAD_CHARACTER, NEVER_EMPTY, NO_BYTES, NOT_ES};
+use terms::{NEVER_EMPTY, Reason, Refusal};
 
 // The alphabets of strings.
 #[derive(Clone, Copy)]
@@ -20,6 +19,7 @@ enum Alphabet {
 }
 
 // Whether a content is whole characters of an alphabet.
+// Kept: by its name an alphabet stands in the clause; a closure would stand there by what it promises.
 fn is_text(w: &[u8], alphabet: Alphabet) -> bool
     ensures { result ≡ is_text (characters_of alphabet) w.now }
 {
@@ -31,48 +31,52 @@ fn is_text(w: &[u8], alphabet: Alphabet) -> bool
 }
 
 // A string: 14 where a byte is needed and none is there, then 9 unless it is text.
-fn string(s: &[u8], alphabet: Alphabet, at: usize, a: usize, z: usize, empty: bool) -> Checked
+fn string(
+    s: &[u8],
+    alphabet: Alphabet,
+    at: usize,
+    a: usize,
+    z: usize,
+    empty: bool,
+) -> Result<(), Refusal>
     ensures { result ≡ checked_at (string_rule (characters_of alphabet) empty) s.now at a z }
 {
     let w = windows::window(s, a, z);
     octets::ask_two(
         windows::enough(0, w.len(), empty),
-        NO_BYTES,
+        Reason::NoBytes,
         is_text(w, alphabet),
-        BAD_CHARACTER,
+        Reason::BadCharacter,
         at,
     )
 }
 
 // An IA5String, whose bytes are below 80.
-pub fn ia5(s: &[u8], at: usize, a: usize, z: usize, empty: bool) -> Checked
+pub fn ia5(s: &[u8], at: usize, a: usize, z: usize, empty: bool) -> Result<(), Refusal>
     ensures { result ≡ checked_at (string_rule ia5Characters empty) s.now at a z }
 {
     string(s, Alphabet::Ia5, at, a, z, empty)
 }
 
 // A PrintableString, as X.680 has it.
-pub fn printable(s: &[u8], at: usize, a: usize, z: usize, empty: bool) -> Checked
+pub fn printable(s: &[u8], at: usize, a: usize, z: usize, empty: bool) -> Result<(), Refusal>
     ensures { result ≡ checked_at (string_rule printableCharacters empty) s.now at a z }
 {
     string(s, Alphabet::Printable, at, a, z, empty)
 }
 
 // A UTF8String, as RFC 3629 has it.
-pub fn utf8(s: &[u8], at: usize, a: usize, z: usize, empty: bool) -> Checked
+pub fn utf8(s: &[u8], at: usize, a: usize, z: usize, empty: bool) -> Result<(), Refusal>
     ensures { result ≡ checked_at (string_rule utf8Characters empty) s.now at a z }
 {
     string(s, Alphabet::Utf8, at, a, z, empty)
 }
 
 // The header's name: 14 and 9 as of an IA5String that needs a byte, then 8 unless it is "ES".
-pub fn header_name(s: &[u8], at: usize, a: usize, z: usize) -> Checked
+pub fn header_name(s: &[u8], at: usize, a: usize, z: usize) -> Result<(), Refusal>
     ensures { result ≡ checked_at (known_rule header_name) s.now at a z }
 {
-    let text = ia5(s, at, a, z, NEVER_EMPTY);
-    let Checked::Fine = text else {
-        return text;
-    };
+    ia5(s, at, a, z, NEVER_EMPTY)?;
     let w = windows::window(s, a, z);
-    octets::ask(windows::is_same(w, b"ES"), NOT_ES, at)
+    octets::ask(windows::is_same(w, b"ES"), Reason::NotEs, at)
 }

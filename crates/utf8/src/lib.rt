@@ -12,14 +12,11 @@ fn stands(w: &[u8], i: usize, low: u8, high: u8) -> bool
     if w.len() <= i {
         return false;
     }
-    let b = w[i];
-    if b < low {
-        return false;
-    }
-    b <= high
+    low <= w[i] && w[i] <= high
 }
 
 // How many bytes the character at a position has: a second byte from one number to another, and so many tails (80 to BF); 0 unless they are there.
+// Kept: 0 where none stands is what the definition of a character's size says, here and in `size_at`.
 fn followed(w: &[u8], i: usize, low: u8, high: u8, tails: usize) -> usize
     requires { (i < length w.now) × (tails ≤ 2) }
     ensures { result ≡ size_with ((low, high) ∷ replicate tails (0x80, 0xBF)) (drop (i + 1) w.now) }
@@ -27,12 +24,10 @@ fn followed(w: &[u8], i: usize, low: u8, high: u8, tails: usize) -> usize
     if !stands(w, i + 1, low, high) {
         return 0;
     }
-    let mut k = 0;
-    while k < tails {
+    for k in 0..tails {
         if !stands(w, i + 2 + k, 0x80, 0xBF) {
             return 0;
         }
-        k += 1;
     }
     2 + tails
 }
@@ -43,16 +38,16 @@ fn size_at(w: &[u8], i: usize, b: u8) -> usize
     ensures { result ≡ character_size utf8Characters (drop i w.now) }
 {
     match b {
-        0x00..=0x7F => return 1,
-        0xC2..=0xDF => return followed(w, i, 0x80, 0xBF, 0),
-        0xE0 => return followed(w, i, 0xA0, 0xBF, 1),
-        0xE1..=0xEC => return followed(w, i, 0x80, 0xBF, 1),
-        0xED => return followed(w, i, 0x80, 0x9F, 1),
-        0xEE..=0xEF => return followed(w, i, 0x80, 0xBF, 1),
-        0xF0 => return followed(w, i, 0x90, 0xBF, 2),
-        0xF1..=0xF3 => return followed(w, i, 0x80, 0xBF, 2),
-        0xF4 => return followed(w, i, 0x80, 0x8F, 2),
-        _ => return 0,
+        0x00..=0x7F => 1,
+        0xC2..=0xDF => followed(w, i, 0x80, 0xBF, 0),
+        0xE0 => followed(w, i, 0xA0, 0xBF, 1),
+        0xE1..=0xEC => followed(w, i, 0x80, 0xBF, 1),
+        0xED => followed(w, i, 0x80, 0x9F, 1),
+        0xEE..=0xEF => followed(w, i, 0x80, 0xBF, 1),
+        0xF0 => followed(w, i, 0x90, 0xBF, 2),
+        0xF1..=0xF3 => followed(w, i, 0x80, 0xBF, 2),
+        0xF4 => followed(w, i, 0x80, 0x8F, 2),
+        _ => 0,
     }
 }
 
@@ -63,6 +58,7 @@ pub fn is_utf8(w: &[u8]) -> bool
     if characters::is_ia5(w) {
         return true;
     }
+    // Kept: `str::from_utf8` takes 39 instructions for a Chinese character, and the bar is 36.
     let mut i = 0;
     while i < w.len() {
         let n = size_at(w, i, w[i]);

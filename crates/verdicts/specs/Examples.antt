@@ -1,14 +1,12 @@
 -- Findings G for record S, findings for record D, and each verdict reached from them. The expected answers are document 01's. Assumes nothing.
-use Rattle.std.specs.Prelude.{◌≡◌, ℕ, Bool, true, false, List, [], ◌∷◌, ◌++◌, set}
-use Rattle.terms.specs.Answer.{Told, told_one, refusal}
+use Rattle.std.specs.Prelude.{pos, ◌≡◌, ℕ, Bool, true, false, List, [], ◌∷◌, ◌++◌, set, Some, None, Option}
+use Rattle.terms.specs.Answer.{Told, refuses, told_one}
 use Rattle.terms.specs.Laws.Table.{Row, asks, answers, agreed}
 use Rattle.contents.specs.Time.{not_later, moment_in, moment_of, written, is_real}
 use Rattle.records.specs.Samples.{record_s, record_d}
 use Rattle.records.specs.Examples.{evaluate, seal_s}
 use Rattle.verdicts.specs.Findings.{between, within_dates, revoked_by, in_force, withdrawn_by, sound, at_stamp, revocation_times, certificate_times, stamp_times, times_of, all_real}
 use Rattle.verdicts.specs.Verdict.{or_else, first_failing, the, time_of, in_period, sought, signer_listed, stamped, maker_out, judged, signature_rules, seal_rules, weigh, verdict, told_verdict}
-use Rattle.verdicts.specs.declared.Revocation.{Revocation}
-use Rattle.verdicts.specs.declared.Revocation.TheVariants.{Never, At}
 use Rattle.verdicts.specs.declared.CertificateFacts.{CertificateFacts}
 use Rattle.verdicts.specs.declared.Stamping.{Stamping}
 use Rattle.verdicts.specs.declared.Stamping.TheVariants.{Unchecked, Bad, Good}
@@ -21,45 +19,45 @@ evaluate_verdict = tt
 
 -- ---- findings
 
-abbrev pub certificate : Bool → Bool → ℕ → ℕ → Revocation → CertificateFacts
+abbrev pub certificate : Bool → Bool → ℕ → ℕ → Option ℕ → CertificateFacts
 certificate c u a z r = record { chain = c; usage = u; dates = record { first = a; last = z }; revocation = r }
 
 -- both signature values, now, maker, signer, the seal's withdrawal and the stamp
-abbrev pub findings : Bool → Bool → ℕ → CertificateFacts → CertificateFacts → Revocation → Stamping → Findings
+abbrev pub findings : Bool → Bool → ℕ → CertificateFacts → CertificateFacts → Option ℕ → Stamping → Findings
 findings a b n m s w t = record { signature = a; sealing = b; now = n; maker = m; signer = s; seal = record { withdrawn = w }; stamp = record { state = t } }
 
 -- "Findings G: all good, original digest DD, none revoked or withdrawn, both certificates 20230101000000 to 20251231235959, now 20240701000000."
 abbrev pub c : CertificateFacts
-c = certificate true true 20230101000000 20251231235959 Never
+c = certificate true true 20230101000000 20251231235959 None
 
 abbrev pub G : Findings
-G = findings true true 20240701000000 c c Never Unchecked
+G = findings true true 20240701000000 c c None Unchecked
 
 abbrev pub dd : List ℕ
 dd = 0xDD ∷ []
 
 -- G with another now, maker, signer, withdrawal or stamp
 abbrev judged_at : ℕ → Findings
-judged_at n = findings true true n c c Never Unchecked
+judged_at n = findings true true n c c None Unchecked
 
 abbrev made_by : CertificateFacts → Findings
-made_by m = findings true true 20240701000000 m c Never Unchecked
+made_by m = findings true true 20240701000000 m c None Unchecked
 
 abbrev signed_by : CertificateFacts → Findings
-signed_by s = findings true true 20240701000000 c s Never Unchecked
+signed_by s = findings true true 20240701000000 c s None Unchecked
 
 abbrev withdrawn : ℕ → Findings
-withdrawn t = findings true true 20240701000000 c c (At t) Unchecked
+withdrawn t = findings true true 20240701000000 c c (Some t) Unchecked
 
 abbrev stamp_good_at : ℕ → Findings
-stamp_good_at t = findings true true 20240701000000 c c Never (Good t)
+stamp_good_at t = findings true true 20240701000000 c c None (Good t)
 
 -- c with other dates, or revoked
 abbrev dated : ℕ → ℕ → CertificateFacts
-dated a z = certificate true true a z Never
+dated a z = certificate true true a z None
 
 abbrev revoked : ℕ → CertificateFacts
-revoked t = certificate true true 20230101000000 20251231235959 (At t)
+revoked t = certificate true true 20230101000000 20251231235959 (Some t)
 
 -- its first date after its last; in force from the second after G's now; its chain not good; its usage not good
 abbrev backward : CertificateFacts
@@ -69,10 +67,10 @@ abbrev late : CertificateFacts
 late = dated 20240701000001 20251231235959
 
 abbrev unchained : CertificateFacts
-unchained = certificate false true 20230101000000 20251231235959 Never
+unchained = certificate false true 20230101000000 20251231235959 None
 
 abbrev bad : CertificateFacts
-bad = certificate true false 20230101000000 20251231235959 Never
+bad = certificate true false 20230101000000 20251231235959 None
 
 -- the verdict on S with some findings
 abbrev pub on_s : Findings → Told
@@ -105,10 +103,10 @@ unlisted = set record_s 150 0xAB
 abbrev rows_s : List Row
 rows_s =
     (on_s G, plain 0)
-    ∷ (on_s (findings false true 20240701000000 late c Never Unchecked), plain 21)
+    ∷ (on_s (findings false true 20240701000000 late c None Unchecked), plain 21)
     -- kind 1: the signer's digest is not looked at
     ∷ (told_verdict (verdict signature_rules unlisted G dd (0xAA ∷ [])), plain 22)
-    ∷ (on_s (findings true false 20240701000000 c c Never Unchecked), plain 23)
+    ∷ (on_s (findings true false 20240701000000 c c None Unchecked), plain 23)
     ∷ (on_s (made_by unchained), plain 24)
     ∷ (on_s (made_by bad), plain 24)
     ∷ (told_verdict (verdict signature_rules signed_in2023 (made_by late) dd []), notice 26)
@@ -118,14 +116,14 @@ rows_s =
     ∷ (on_s (withdrawn 20240630120000), plain 27)
     ∷ (on_s (withdrawn 20240630120001), plain 0)
     ∷ (on_s (signed_by unchained), plain 28)
-    ∷ (on_s (findings true true 20240701000000 late bad Never Unchecked), notice 28)
+    ∷ (on_s (findings true true 20240701000000 late bad None Unchecked), notice 28)
     ∷ (on_s (signed_by late), plain 29)
     ∷ (on_s (signed_by backward), plain 29)
     ∷ (told_verdict (verdict signature_rules record_s G (0xDE ∷ []) []), plain 31)
     -- first ≤ t ≤ last: signer and maker in force in the one second of the signing
-    ∷ (on_s (findings true true 20240701000000 (dated 20240630120000 20240630120000) (dated 20240630120000 20240630120000) Never Unchecked), plain 0)
+    ∷ (on_s (findings true true 20240701000000 (dated 20240630120000 20240630120000) (dated 20240630120000 20240630120000) None Unchecked), plain 0)
     -- "With no stamp in the record 32 to 34 never arise.": a stamp bad, good before signing, good when the signer is out of force
-    ∷ (on_s (findings true true 20240701000000 c c Never Bad), plain 0)
+    ∷ (on_s (findings true true 20240701000000 c c None Bad), plain 0)
     ∷ (on_s (stamp_good_at 20240630115959), plain 0)
     ∷ (on_s (stamp_good_at 20260101000000), plain 0)
     -- the notice: maker in force from now on, from a second later, revoked before signing, revoked between signing and now
@@ -151,7 +149,7 @@ unreal =
 
 abbrev refused18 : List Findings → List Row
 refused18 [] = []
-refused18 (f ∷ fs) = (on_s f, refusal 18 0) ∷ refused18 fs
+refused18 (f ∷ fs) = (on_s f, refuses 18 (pos 0 ∷ [])) ∷ refused18 fs
 
 unreal-times : asks (refused18 unreal) ≡ answers (refused18 unreal)
 unfolding evaluate_verdict
@@ -179,47 +177,47 @@ d = dated 20210101000000 20221231235959
 
 -- a signer's certificate with all wrong, with its chain good, with its dates good too
 abbrev wrong : CertificateFacts
-wrong = certificate false true 20230101000000 20251231235959 (At 20210101000000)
+wrong = certificate false true 20230101000000 20251231235959 (Some 20210101000000)
 
 abbrev outdated : CertificateFacts
-outdated = certificate true true 20230101000000 20251231235959 (At 20210101000000)
+outdated = certificate true true 20230101000000 20251231235959 (Some 20210101000000)
 
 abbrev revoked_early : CertificateFacts
-revoked_early = certificate true true 20210101000000 20221231235959 (At 20210101000000)
+revoked_early = certificate true true 20210101000000 20221231235959 (Some 20210101000000)
 
 -- "The first that holds": with all wrong, then one after another set right. The maker is out of force now and at signing: "A notice goes with 0 and 26 to 34".
 abbrev table : List Row
 table =
-    (on_d (0x30 ∷ 0x80 ∷ []) (findings false false 0 bad wrong (At 20220101000000) Bad) [] [], refusal 3 0)
-    ∷ (on_d signed_in2032 (findings false false 0 bad wrong (At 20220101000000) Bad) [] [], refusal 18 0)
-    ∷ (on_d signed_in2032 (findings false false 20220701000000 bad wrong (At 20220101000000) Bad) [] [], plain 21)
-    ∷ (on_d signed_in2032 (findings true false 20220701000000 bad wrong (At 20220101000000) Bad) [] [], plain 22)
-    ∷ (on_d signed_in2032 (findings true false 20220701000000 bad wrong (At 20220101000000) Bad) [] d3, plain 23)
-    ∷ (on_d signed_in2032 (findings true true 20220701000000 bad wrong (At 20220101000000) Bad) [] d3, plain 24)
-    ∷ (on_d signed_in2032 (findings true true 20220701000000 c wrong (At 20220101000000) Bad) [] d3, notice 26)
-    ∷ (on_d record_d (findings true true 20220701000000 c wrong (At 20220101000000) Bad) [] d3, notice 27)
-    ∷ (on_d record_d (findings true true 20220701000000 c wrong Never Bad) [] d3, notice 28)
-    ∷ (on_d record_d (findings true true 20220701000000 c outdated Never Bad) [] d3, notice 29)
-    ∷ (on_d record_d (findings true true 20220701000000 c revoked_early Never Bad) [] d3, notice 30)
-    ∷ (on_d record_d (findings true true 20220701000000 c d Never Bad) [] d3, notice 31)
-    ∷ (on_d record_d (findings true true 20220701000000 c d Never Bad) f1f2f3 d3, notice 32)
-    ∷ (on_d record_d (findings true true 20220701000000 c d Never (Good 20200101000000)) f1f2f3 d3, notice 33)
-    ∷ (on_d record_d (findings true true 20220701000000 c d Never (Good 20230101000000)) f1f2f3 d3, notice 34)
-    ∷ (on_d record_d (findings true true 20220701000000 c d Never (Good 20220406060708)) f1f2f3 d3, notice 0)
+    (on_d (0x30 ∷ 0x80 ∷ []) (findings false false 0 bad wrong (Some 20220101000000) Bad) [] [], refuses 3 (pos 0 ∷ []))
+    ∷ (on_d signed_in2032 (findings false false 0 bad wrong (Some 20220101000000) Bad) [] [], refuses 18 (pos 0 ∷ []))
+    ∷ (on_d signed_in2032 (findings false false 20220701000000 bad wrong (Some 20220101000000) Bad) [] [], plain 21)
+    ∷ (on_d signed_in2032 (findings true false 20220701000000 bad wrong (Some 20220101000000) Bad) [] [], plain 22)
+    ∷ (on_d signed_in2032 (findings true false 20220701000000 bad wrong (Some 20220101000000) Bad) [] d3, plain 23)
+    ∷ (on_d signed_in2032 (findings true true 20220701000000 bad wrong (Some 20220101000000) Bad) [] d3, plain 24)
+    ∷ (on_d signed_in2032 (findings true true 20220701000000 c wrong (Some 20220101000000) Bad) [] d3, notice 26)
+    ∷ (on_d record_d (findings true true 20220701000000 c wrong (Some 20220101000000) Bad) [] d3, notice 27)
+    ∷ (on_d record_d (findings true true 20220701000000 c wrong None Bad) [] d3, notice 28)
+    ∷ (on_d record_d (findings true true 20220701000000 c outdated None Bad) [] d3, notice 29)
+    ∷ (on_d record_d (findings true true 20220701000000 c revoked_early None Bad) [] d3, notice 30)
+    ∷ (on_d record_d (findings true true 20220701000000 c d None Bad) [] d3, notice 31)
+    ∷ (on_d record_d (findings true true 20220701000000 c d None Bad) f1f2f3 d3, notice 32)
+    ∷ (on_d record_d (findings true true 20220701000000 c d None (Good 20200101000000)) f1f2f3 d3, notice 33)
+    ∷ (on_d record_d (findings true true 20220701000000 c d None (Good 20230101000000)) f1f2f3 d3, notice 34)
+    ∷ (on_d record_d (findings true true 20220701000000 c d None (Good 20220406060708)) f1f2f3 d3, notice 0)
     ∷ []
 
 -- D with a revocation of its signer and a stamp
-abbrev stamped_d : Revocation → Stamping → Told
-stamped_d r t = on_d record_d (findings true true 20220701000000 d (certificate true true 20210101000000 20221231235959 r) Never t) f1f2f3 d3
+abbrev stamped_d : Option ℕ → Stamping → Told
+stamped_d r t = on_d record_d (findings true true 20220701000000 d (certificate true true 20210101000000 20221231235959 r) None t) f1f2f3 d3
 
 abbrev stamps : List Row
 stamps =
-    (stamped_d Never Unchecked, plain 32)
-    ∷ (stamped_d Never (Good 20220405060707), plain 33)
-    ∷ (stamped_d Never (Good 20220405060708), plain 0)
-    ∷ (stamped_d Never (Good 20221231235959), plain 0)
-    ∷ (stamped_d (At 20220406000000) (Good 20220406000000), plain 34)
-    ∷ (stamped_d (At 20220405060708) (Good 20220406000000), plain 30)
+    (stamped_d None Unchecked, plain 32)
+    ∷ (stamped_d None (Good 20220405060707), plain 33)
+    ∷ (stamped_d None (Good 20220405060708), plain 0)
+    ∷ (stamped_d None (Good 20221231235959), plain 0)
+    ∷ (stamped_d (Some 20220406000000) (Good 20220406000000), plain 34)
+    ∷ (stamped_d (Some 20220405060708) (Good 20220406000000), plain 30)
     ∷ []
 
 verdicts_on_D : asks (table ++ stamps) ≡ answers (table ++ stamps)
@@ -234,14 +232,14 @@ on_seal f = told_verdict (verdict seal_rules seal_s f [] [])
 -- "23; 24; 25, maker not in force now; 26 with now; else 0. It tests no withdrawal and gives no notice; it takes the same findings, and 18 covers all their times."
 abbrev rows_seal : List Row
 rows_seal =
-    (told_verdict (verdict seal_rules (0x30 ∷ 0x80 ∷ []) (judged_at 0) [] []), refusal 3 0)
+    (told_verdict (verdict seal_rules (0x30 ∷ 0x80 ∷ []) (judged_at 0) [] []), refuses 3 (pos 0 ∷ []))
     -- with all wrong, then one after another set right
-    ∷ (on_seal (findings false false 0 bad bad (At 20240101000000) Bad), refusal 18 0)
-    ∷ (on_seal (findings false false 20260101000000 bad bad (At 20240101000000) Bad), plain 23)
-    ∷ (on_seal (findings false true 20260101000000 bad bad (At 20240101000000) Bad), plain 24)
-    ∷ (on_seal (findings false true 20260101000000 c bad (At 20240101000000) Bad), plain 25)
-    ∷ (on_seal (findings false true 20260101000000 (dated 20260101000000 20260101000000) bad (At 20240101000000) Bad), plain 26)
-    ∷ (on_seal (findings false true 20240701000000 c bad (At 20240101000000) Bad), plain 0)
+    ∷ (on_seal (findings false false 0 bad bad (Some 20240101000000) Bad), refuses 18 (pos 0 ∷ []))
+    ∷ (on_seal (findings false false 20260101000000 bad bad (Some 20240101000000) Bad), plain 23)
+    ∷ (on_seal (findings false true 20260101000000 bad bad (Some 20240101000000) Bad), plain 24)
+    ∷ (on_seal (findings false true 20260101000000 c bad (Some 20240101000000) Bad), plain 25)
+    ∷ (on_seal (findings false true 20260101000000 (dated 20260101000000 20260101000000) bad (Some 20240101000000) Bad), plain 26)
+    ∷ (on_seal (findings false true 20240701000000 c bad (Some 20240101000000) Bad), plain 0)
     ∷ (on_seal (made_by unchained), plain 24)
     ∷ (on_seal (made_by late), plain 25)
     ∷ (on_seal (made_by backward), plain 25)
@@ -253,7 +251,7 @@ rows_seal =
     ∷ (on_seal (judged_at 20250101000000), plain 26)
     -- its start after its end
     ∷ (told_verdict (verdict seal_rules (set (set seal_s 55 0x35) 72 0x33) G [] []), plain 26)
-    ∷ (on_seal (signed_by (dated 20230230000000 20251231235959)), refusal 18 0)
+    ∷ (on_seal (signed_by (dated 20230230000000 20251231235959)), refuses 18 (pos 0 ∷ []))
     ∷ []
 
 verdicts_on_the_seal : asks rows_seal ≡ answers rows_seal

@@ -1,9 +1,7 @@
 -- The findings, and what they say at a moment (01, "Findings and verdicts"). Assumes nothing.
-use Rattle.std.specs.Prelude.{ℕ, Bool, false, not, ◌&&◌, List, [], ◌∷◌, ◌++◌}
+use Rattle.std.specs.Prelude.{ℕ, Bool, false, not, ◌&&◌, List, [], ◌∷◌, ◌++◌, Some, None, Option}
 use Rattle.terms.specs.Answer.{every}
 use Rattle.contents.specs.Time.{Moment, not_later, moment_at, is_real}
-use Rattle.verdicts.specs.declared.Revocation.{Revocation}
-use Rattle.verdicts.specs.declared.Revocation.TheVariants.{Never, At}
 use Rattle.verdicts.specs.declared.Dates.{Dates}
 use Rattle.verdicts.specs.declared.CertificateFacts.{CertificateFacts}
 use Rattle.verdicts.specs.declared.SealFacts.{SealFacts}
@@ -21,9 +19,9 @@ unfoldable pub within_dates : Dates → Moment → Bool
 within_dates d t = between (moment_at d.first) (moment_at d.last) t
 
 -- "revoked at or before t"
-unfoldable pub revoked_by : Revocation → Moment → Bool
-revoked_by Never t = false
-revoked_by (At x) t = not_later (moment_at x) t
+unfoldable pub revoked_by : Option ℕ → Moment → Bool
+revoked_by None t = false
+revoked_by (Some x) t = not_later (moment_at x) t
 
 -- "A certificate is in force at t if first ≤ t ≤ last and it isn't revoked at or before t."
 unfoldable pub in_force : CertificateFacts → Moment → Bool
@@ -44,9 +42,9 @@ at_stamp (Good t) f = f (moment_at t)
 
 -- ---- their times
 
-unfoldable pub revocation_times : Revocation → List ℕ
-revocation_times Never = []
-revocation_times (At t) = t ∷ []
+unfoldable pub revocation_times : Option ℕ → List ℕ
+revocation_times None = []
+revocation_times (Some t) = t ∷ []
 
 unfoldable pub certificate_times : CertificateFacts → List ℕ
 certificate_times c = c.dates.first ∷ c.dates.last ∷ revocation_times c.revocation

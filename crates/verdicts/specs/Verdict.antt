@@ -1,10 +1,13 @@
 -- The two verdicts: tables of numbered steps, and the first that holds (000, 6.3 and 7.3). Assumes nothing.
-use Rattle.std.specs.Prelude.{ℕ, Bool, true, false, not, ◌&&◌, List, [], ◌∷◌}
+use Rattle.std.specs.Prelude.{ℕ, Bool, true, false, not, ◌&&◌, List, [], ◌∷◌, Ok, Err}
 use Rattle.std.proofs.Math.Option.{Option, none, some}
 use Rattle.terms.specs.declared.Field.{Field}
 use Rattle.terms.specs.declared.Field.TheVariants.{ListKind, Start, End, SigningTime, OriginalDigest, SignerCertificate, Stamp}
-use Rattle.terms.specs.Numbers.{valid, unreal_time, signature_bad, signer_unlisted, seal_bad, maker_bad, maker_out_of_force, outside_period, seal_withdrawn, signer_bad, outside_dates, signer_revoked, digest_differs, stamp_bad, after_stamp, signer_out_at_stamp}
-use Rattle.terms.specs.Answer.{Res, good, fault, pick, same, bit, Told, told_one, refusal}
+use Rattle.verdicts.specs.declared.Judgement.{Judgement}
+use Rattle.verdicts.specs.declared.Verdict.{Verdict}
+use Rattle.verdicts.specs.declared.Verdict.TheVariants.{Valid, SignatureBad, SignerUnlisted, SealBad, MakerBad, MakerOutOfForce, OutsidePeriod, SealWithdrawn, SignerBad, OutsideDates, SignerRevoked, DigestDiffers, StampBad, AfterStamp, SignerOutAtStamp}
+use Rattle.terms.specs.declared.Reason.TheVariants.{UnrealTime}
+use Rattle.terms.specs.Answer.{Res, good, fault, pick, same, bit, Told, told_one, refusal, Answer, refused}
 use Rattle.contents.specs.Integer.{says_kind1}
 use Rattle.contents.specs.Time.{Moment, not_later, moment_of, moment_at}
 use Rattle.layouts.specs.Layout.{Members, Values}
@@ -13,19 +16,36 @@ use Rattle.records.specs.Record.{seal, signature}
 use Rattle.records.specs.Handing.{read_record, is_listed}
 use Rattle.verdicts.specs.Findings.{between, within_dates, revoked_by, in_force, withdrawn_by, sound, at_stamp, all_real}
 use Rattle.verdicts.specs.declared.Findings.{Findings}
-use Rattle.verdicts.specs.declared.Verdict.{Verdict}
-use Rattle.verdicts.specs.declared.Verdict.TheVariants.{Judged, Refused}
+
+-- ---- the verdicts' numbers (01, "Findings and verdicts")
+
+abbrev pub verdict_number : Verdict → ℕ
+verdict_number Valid = 0
+verdict_number SignatureBad = 21
+verdict_number SignerUnlisted = 22
+verdict_number SealBad = 23
+verdict_number MakerBad = 24
+verdict_number MakerOutOfForce = 25
+verdict_number OutsidePeriod = 26
+verdict_number SealWithdrawn = 27
+verdict_number SignerBad = 28
+verdict_number OutsideDates = 29
+verdict_number SignerRevoked = 30
+verdict_number DigestDiffers = 31
+verdict_number StampBad = 32
+verdict_number AfterStamp = 33
+verdict_number SignerOutAtStamp = 34
 
 -- ---- tables of steps
 
--- a step's number, when it fails, and whether the notice goes with it
+-- a step's verdict, when it fails, and whether the notice goes with it
 pub record Step (A : Type 0) : Type 0 where
-  pub number : ℕ
+  pub verdict : Verdict
   pub fails : A → Bool
   pub carries : Bool
 
-abbrev pub step : {A : Type 0} → ℕ → Bool → (A → Bool) → Step A
-step n c f = record { number = n; fails = f; carries = c }
+abbrev pub step : {A : Type 0} → Verdict → Bool → (A → Bool) → Step A
+step v c f = record { verdict = v; fails = f; carries = c }
 
 unfoldable pub or_else : {A : Type 0} → Option A → A → A
 or_else none a = a
@@ -92,39 +112,39 @@ with_notice = true
 abbrev signature_steps : List (Step Facts)
 signature_steps =
     -- b, c
-    step signature_bad no_notice (λ x. not x.found.signature)
-    ∷ step signer_unlisted no_notice (λ x. not (signer_listed x))
+    step SignatureBad no_notice (λ x. not x.found.signature)
+    ∷ step SignerUnlisted no_notice (λ x. not (signer_listed x))
     -- d
-    ∷ step seal_bad no_notice (λ x. not x.found.sealing)
-    ∷ step maker_bad no_notice (λ x. not (sound x.found.maker))
-    ∷ step outside_period with_notice (λ x. not (in_period x (signing x)))
-    ∷ step seal_withdrawn with_notice (λ x. withdrawn_by x.found.seal (signing x))
+    ∷ step SealBad no_notice (λ x. not x.found.sealing)
+    ∷ step MakerBad no_notice (λ x. not (sound x.found.maker))
+    ∷ step OutsidePeriod with_notice (λ x. not (in_period x (signing x)))
+    ∷ step SealWithdrawn with_notice (λ x. withdrawn_by x.found.seal (signing x))
     -- e, f
-    ∷ step signer_bad with_notice (λ x. not (sound x.found.signer))
-    ∷ step outside_dates with_notice (λ x. not (within_dates x.found.signer.dates (signing x)))
-    ∷ step signer_revoked with_notice (λ x. revoked_by x.found.signer.revocation (signing x))
+    ∷ step SignerBad with_notice (λ x. not (sound x.found.signer))
+    ∷ step OutsideDates with_notice (λ x. not (within_dates x.found.signer.dates (signing x)))
+    ∷ step SignerRevoked with_notice (λ x. revoked_by x.found.signer.revocation (signing x))
     -- g, h
-    ∷ step digest_differs with_notice (λ x. not (same x.original_digest (the OriginalDigest x)))
-    ∷ step stamp_bad with_notice (λ x. stamped x && not (at_stamp x.found.stamp.state (λ t. true)))
-    ∷ step after_stamp with_notice (λ x. stamped x && at_stamp x.found.stamp.state (λ t. not (not_later (signing x) t)))
-    ∷ step signer_out_at_stamp with_notice (λ x. stamped x && at_stamp x.found.stamp.state (λ t. not (in_force x.found.signer t)))
+    ∷ step DigestDiffers with_notice (λ x. not (same x.original_digest (the OriginalDigest x)))
+    ∷ step StampBad with_notice (λ x. stamped x && not (at_stamp x.found.stamp.state (λ t. true)))
+    ∷ step AfterStamp with_notice (λ x. stamped x && at_stamp x.found.stamp.state (λ t. not (not_later (signing x) t)))
+    ∷ step SignerOutAtStamp with_notice (λ x. stamped x && at_stamp x.found.stamp.state (λ t. not (in_force x.found.signer t)))
     ∷ []
 
 abbrev pub signature_rules : Rulebook
-signature_rules = record { layout = signature; steps = signature_steps; passed = step valid with_notice (λ x. true) }
+signature_rules = record { layout = signature; steps = signature_steps; passed = step Valid with_notice (λ x. true) }
 
 -- ---- the seal verdict (000, 6.3): "It tests no withdrawal and gives no notice"
 
 abbrev seal_steps : List (Step Facts)
 seal_steps =
-    step seal_bad no_notice (λ x. not x.found.sealing)
-    ∷ step maker_bad no_notice (λ x. not (sound x.found.maker))
-    ∷ step maker_out_of_force no_notice (λ x. not (in_force x.found.maker (now x)))
-    ∷ step outside_period no_notice (λ x. not (in_period x (now x)))
+    step SealBad no_notice (λ x. not x.found.sealing)
+    ∷ step MakerBad no_notice (λ x. not (sound x.found.maker))
+    ∷ step MakerOutOfForce no_notice (λ x. not (in_force x.found.maker (now x)))
+    ∷ step OutsidePeriod no_notice (λ x. not (in_period x (now x)))
     ∷ []
 
 abbrev pub seal_rules : Rulebook
-seal_rules = record { layout = seal; steps = seal_steps; passed = step valid no_notice (λ x. true) }
+seal_rules = record { layout = seal; steps = seal_steps; passed = step Valid no_notice (λ x. true) }
 
 -- ---- the answer
 
@@ -132,20 +152,23 @@ seal_rules = record { layout = seal; steps = seal_steps; passed = step valid no_
 unfoldable pub maker_out : Facts → Bool
 maker_out x = not (in_force x.found.maker (now x)) && not (in_force x.found.maker (signing x))
 
--- the number of the first failing step, and the notice
-unfoldable pub judged : Rulebook → Facts → Verdict
-judged b x = let s : Step Facts = first_failing b.steps b.passed x in Judged s.number (s.carries && maker_out x)
+abbrev pub judgement : Verdict → Bool → Judgement
+judgement v notice = record { verdict = v; notice = notice }
+
+-- the verdict of the first failing step, and the notice
+unfoldable pub judged : Rulebook → Facts → Answer Judgement
+judged b x = let s : Step Facts = first_failing b.steps b.passed x in Ok (judgement s.verdict (s.carries && maker_out x))
 
 -- "after refusals of the record, then 18"
-unfoldable pub weigh : (b : Rulebook) → Res (Values b.layout) → Findings → List ℕ → List ℕ → Verdict
-weigh b (fault n p) f original signer = Refused n p
-weigh b (good v) f original signer = pick (all_real f) (judged b (facts_of b.layout v f original signer)) (Refused unreal_time 0)
+unfoldable pub weigh : (b : Rulebook) → Res (Values b.layout) → Findings → List ℕ → List ℕ → Answer Judgement
+weigh b (fault n p) f original signer = refused n p
+weigh b (good v) f original signer = pick (all_real f) (judged b (facts_of b.layout v f original signer)) (refused UnrealTime 0)
 
-unfoldable pub verdict : Rulebook → List ℕ → Findings → List ℕ → List ℕ → Verdict
+unfoldable pub verdict : Rulebook → List ℕ → Findings → List ℕ → List ℕ → Answer Judgement
 verdict b w f original signer = weigh b (read_record b.layout w) f original signer
 
 -- ---- a verdict in the paper's terms
 
-abbrev pub told_verdict : Verdict → Told
-told_verdict (Judged n notice) = told_one n (bit notice)
-told_verdict (Refused n p) = refusal n p
+abbrev pub told_verdict : Answer Judgement → Told
+told_verdict (Ok j) = told_one (verdict_number j.verdict) (bit j.notice)
+told_verdict (Err e) = refusal e.reason e.place

@@ -1,37 +1,34 @@
-// The findings, as plain data. A time in them is a whole number whose fourteen decimal digits are the date and time.
+// The findings, as plain data, and the verdicts. A time in the findings is a whole number whose fourteen decimal digits are the date and time.
 #![tactic(auto)]
 
-// Never revoked, or revoked at a time.
-#[derive(Clone, Copy)]
-pub enum Revocation {
-    Never,
-    At(u64),
-}
+ghost use Rattle.std.specs.Prelude.{◌≡◌};
+ghost use Rattle.verdicts.specs.Verdict.{verdict_number};
 
 // The first and the last time of a certificate.
-#[derive(Clone, Copy)]
+#[derive(Clone, Copy, PartialEq, Eq, Debug)]
 pub struct Dates {
     pub first: u64,
     pub last: u64,
 }
 
-// What was found of a certificate.
-#[derive(Clone, Copy)]
+// What was found of a certificate: where it was revoked, when.
+#[derive(Clone, Copy, PartialEq, Eq, Debug)]
 pub struct CertificateFacts {
     pub chain: bool,
     pub usage: bool,
     pub dates: Dates,
-    pub revocation: Revocation,
+    pub revocation: Option<u64>,
 }
 
-// What was found of the seal: normal, or withdrawn at a time.
-#[derive(Clone, Copy)]
+// What was found of the seal: where it was withdrawn, when.
+#[derive(Clone, Copy, PartialEq, Eq, Debug)]
 pub struct SealFacts {
-    pub withdrawn: Revocation,
+    pub withdrawn: Option<u64>,
 }
 
 // The stamp unchecked, bad, or good at a time.
-#[derive(Clone, Copy)]
+// Kept: three states by their names; an `Option` has two.
+#[derive(Clone, Copy, PartialEq, Eq, Debug)]
 pub enum Stamping {
     Unchecked,
     Bad,
@@ -39,13 +36,13 @@ pub enum Stamping {
 }
 
 // What was found of the stamp.
-#[derive(Clone, Copy)]
+#[derive(Clone, Copy, PartialEq, Eq, Debug)]
 pub struct StampFacts {
     pub state: Stamping,
 }
 
 // The findings; the two digests, which are bytes, come beside them.
-#[derive(Clone, Copy)]
+#[derive(Clone, Copy, PartialEq, Eq, Debug)]
 pub struct Findings {
     pub signature: bool,
     pub sealing: bool,
@@ -56,42 +53,38 @@ pub struct Findings {
     pub stamp: StampFacts,
 }
 
-// A verdict: the number and whether the notice goes with it, or the refusal's number and place.
-#[derive(Clone, Copy)]
+// A verdict: valid, or what fails.
+#[derive(Clone, Copy, PartialEq, Eq, Debug)]
 pub enum Verdict {
-    Judged(u8, bool),
-    Refused(u8, usize),
+    Valid = 0,
+    SignatureBad = 21,
+    SignerUnlisted,
+    SealBad,
+    MakerBad,
+    MakerOutOfForce,
+    OutsidePeriod,
+    SealWithdrawn,
+    SignerBad,
+    OutsideDates,
+    SignerRevoked,
+    DigestDiffers,
+    StampBad,
+    AfterStamp,
+    SignerOutAtStamp,
 }
 
-// The numbers of verdicts, by the names that `Numbers` has for them, and that of a time that is no real date; every answer that cites one is proved to be its number.
-pub const VALID: u8 = 0;
+impl Verdict {
+    // The number that the rules give it.
+    pub fn number(self) -> u8
+        ensures { result ≡ verdict_number self }
+    {
+        self as u8
+    }
+}
 
-pub const UNREAL_TIME: u8 = 18;
-
-pub const SIGNATURE_BAD: u8 = 21;
-
-pub const SIGNER_UNLISTED: u8 = 22;
-
-pub const SEAL_BAD: u8 = 23;
-
-pub const MAKER_BAD: u8 = 24;
-
-pub const MAKER_OUT_OF_FORCE: u8 = 25;
-
-pub const OUTSIDE_PERIOD: u8 = 26;
-
-pub const SEAL_WITHDRAWN: u8 = 27;
-
-pub const SIGNER_BAD: u8 = 28;
-
-pub const OUTSIDE_DATES: u8 = 29;
-
-pub const SIGNER_REVOKED: u8 = 30;
-
-pub const DIGEST_DIFFERS: u8 = 31;
-
-pub const STAMP_BAD: u8 = 32;
-
-pub const AFTER_STAMP: u8 = 33;
-
-pub const SIGNER_OUT_AT_STAMP: u8 = 34;
+// A verdict, and whether the notice goes with it.
+#[derive(Clone, Copy, PartialEq, Eq, Debug)]
+pub struct Judgement {
+    pub verdict: Verdict,
+    pub notice: bool,
+}

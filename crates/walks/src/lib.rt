@@ -6,15 +6,15 @@ ghost use Rattle.std.specs.Prelude.{◌≡◌};
 ghost use Rattle.structures.specs.Structure.{row_of, layout_of};
 ghost use Rattle.walks.specs.Walk.{item_walk, row_walk, member_walk, list_walk, record_walk};
 
-use heads::{Seen, Step};
-use layouts::Tally;
+use heads::Span;
 use primitives::Primitive;
-use rows::{MEMBERS, Member};
+use rows::Member;
 use structures::{Build, Row, Structure};
 use tags::Tag;
-use terms::{Field, TOO_MANY_ITEMS};
+use terms::{Field, Reason, Refusal};
 
 // An item under its name, up to its encloser's end: where what follows it starts, or the first refusal in it.
+// Kept: a struct of the record and the lent table would be taken apart and built anew at each call.
 #[cycle(item_list_member_row)]
 fn item(
     s: &[u8],
@@ -24,29 +24,18 @@ fn item(
     at: usize,
     end: usize,
     places: &mut [usize],
-) -> Step
+) -> Result<usize, Refusal>
     ensures { (result, places.new) ≡ item_walk (layout_of x) name index s.now at end places.old }
 {
-    let b = structures::build_of(x);
-    match b {
+    match structures::build_of(x) {
         Build::Leaf(primitive) => {
-            return edges::past(entries::leaf(s, primitive, name, index, at, end, places));
+            edges::past(entries::leaf(s, primitive, name, index, at, end, places))
         }
         Build::Node(t, members) => {
-            let h = items::head(s, t, at, end);
-            let Seen::Item { start: a, end: z } = h else {
-                blames::blame(places, name);
-                return edges::past(h);
-            };
-            places::note(places, name, index, at, z, 0);
-            let r = row(s, members, index, a, z, places);
-            match r {
-                Step::Refused(number, place) => {
-                    blames::blame(places, name);
-                    return Step::Refused(number, place);
-                }
-                Step::Next(q) => return Step::Next(q),
-            }
+            let inside = blames::blaming(items::head(s, t, at, end), name, places)?;
+            places::note(places, name, index, at, inside.end, 0);
+            let read = row(s, members, index, inside.start, inside.end, places);
+            blames::blaming(read, name, places)
         }
         Build::List {
             tag,
@@ -55,95 +44,71 @@ fn item(
             name: item_name,
             each,
         } => {
-            let h = list_heads::list_head(s, tag, empty, at, end);
-            let Seen::Item { start: a, end: z } = h else {
-                blames::blame(places, name);
-                return edges::past(h);
-            };
-            let c = list(s, each, most, item_name, a, z, places);
-            match c {
-                Tally::Refused(number, place) => {
-                    blames::blame(places, name);
-                    return Step::Refused(number, place);
-                }
-                Tally::Items(n) => {
-                    places::note(places, name, index, at, z, n);
-                    return Step::Next(z);
-                }
-            }
+            let head = list_heads::list_head(s, tag, empty, at, end);
+            let inside = blames::blaming(head, name, places)?;
+            let read = list(s, each, most, item_name, inside.start, inside.end, places);
+            let count = blames::blaming(read, name, places)?;
+            places::note(places, name, index, at, inside.end, count);
+            Ok(inside.end)
         }
         Build::Wrap(t, y) => {
-            let h = items::head(s, t, at, end);
-            let Seen::Item { start: a, end: z } = h else {
-                blames::blame(places, name);
-                return edges::past(h);
-            };
-            let r = item(s, y, name, index, a, z, places);
-            let Step::Next(q) = r else {
-                return r;
-            };
-            let c = edges::close(q, z);
-            match c {
-                Step::Refused(number, place) => {
-                    blames::blame(places, name);
-                    return Step::Refused(number, place);
-                }
-                Step::Next(n) => return Step::Next(n),
-            }
+            let inside = blames::blaming(items::head(s, t, at, end), name, places)?;
+            let next = item(s, y, name, index, inside.start, inside.end, places)?;
+            blames::blaming(edges::close(next, inside.end), name, places)
         }
     }
 }
 
 // The members of a row, one after another, to the end: 5 if bytes are left over.
 #[cycle(item_list_member_row)]
-fn row(s: &[u8], x: Row, index: usize, at: usize, end: usize, places: &mut [usize]) -> Step
+fn row(
+    s: &[u8],
+    x: Row,
+    index: usize,
+    at: usize,
+    end: usize,
+    places: &mut [usize],
+) -> Result<usize, Refusal>
     ensures { (result, places.new) ≡ row_walk (row_of x) index s.now at end places.old }
 {
     let members = rows::members_of(x);
     let mut p = at;
-    let mut k: usize = 0;
-    while k < MEMBERS {
-        let passed = member(s, members[k], index, p, end, places);
-        match passed {
-            Step::Refused(number, place) => return Step::Refused(number, place),
-            Step::Next(q) => p = q,
-        }
-        k += 1;
+    for m in &members {
+        p = member(s, *m, index, p, end, places)?;
     }
     edges::close(p, end)
 }
 
 // A member of a row.
 #[cycle(item_list_member_row)]
-fn member(s: &[u8], m: Member, index: usize, at: usize, end: usize, places: &mut [usize]) -> Step
+fn member(
+    s: &[u8],
+    m: Member,
+    index: usize,
+    at: usize,
+    end: usize,
+    places: &mut [usize],
+) -> Result<usize, Refusal>
     ensures { (result, places.new) ≡ member_walk m index s.now at end places.old }
 {
     match m {
-        Member::Blank => return Step::Next(at),
-        Member::Known(w) => return edges::past(leaves::known(s, w, at, end)),
+        Member::Blank => Ok(at),
+        Member::Known(w) => edges::past(leaves::known(s, w, at, end)),
         Member::Leaf(name, primitive) => {
-            return edges::past(entries::leaf(s, primitive, name, index, at, end, places));
+            edges::past(entries::leaf(s, primitive, name, index, at, end, places))
         }
-        Member::Part(name, x) => return item(s, x, name, index, at, end, places),
+        Member::Part(name, x) => item(s, x, name, index, at, end, places),
         Member::Maybe(name, x) => {
-            if edges::begins(s, structures::tag_of(x), at, end) {
-                return item(s, x, name, index, at, end, places);
+            if !edges::begins(s, structures::tag_of(x), at, end) {
+                return Ok(at);
             }
-            return Step::Next(at);
+            item(s, x, name, index, at, end, places)
         }
         Member::Flag(name) => {
-            if edges::begins(s, Tag::Boolean, at, end) {
-                return edges::past(entries::leaf(
-                    s,
-                    Primitive::Critical,
-                    name,
-                    index,
-                    at,
-                    end,
-                    places,
-                ));
+            if !edges::begins(s, Tag::Boolean, at, end) {
+                return Ok(at);
             }
-            return Step::Next(at);
+            edges::past(entries::leaf(s, Primitive::Critical, name, index, at, end, places))
         }
         Member::Choice {
             by,
@@ -153,14 +118,11 @@ fn member(s: &[u8], m: Member, index: usize, at: usize, end: usize, places: &mut
             first,
             second,
         } => {
-            let h = entries::leaf(s, primitive, by, index, at, end, places);
-            let Seen::Item { start: a, end: z } = h else {
-                return edges::past(h);
-            };
-            if answers::is_content(s, content, a, z) {
-                return item(s, first, name, index, z, end, places);
+            let value = entries::leaf(s, primitive, by, index, at, end, places)?;
+            if answers::is_content(s, content, value.start, value.end) {
+                return item(s, first, name, index, value.end, end, places);
             }
-            return item(s, second, name, index, z, end, places);
+            item(s, second, name, index, value.end, end, places)
         }
     }
 }
@@ -175,33 +137,34 @@ fn list(
     at: usize,
     end: usize,
     places: &mut [usize],
-) -> Tally
+) -> Result<usize, Refusal>
     ensures { (result, places.new) ≡ list_walk (layout_of x) name most 0 s.now at end places.old }
 {
     let mut p = at;
-    let mut k: usize = 0;
-    while p < end {
-        if k == most {
-            return Tally::Refused(TOO_MANY_ITEMS, p);
+    for k in 0..most {
+        if end <= p {
+            return Ok(k);
         }
-        let r = item(s, x, name, k, p, end, places);
-        match r {
-            Step::Refused(number, place) => return Tally::Refused(number, place),
-            Step::Next(q) => p = q,
-        }
-        k += 1;
+        p = item(s, x, name, k, p, end, places)?;
     }
-    Tally::Items(k)
+    if p < end {
+        return Err(Reason::TooManyItems.at(p));
+    }
+    Ok(most)
 }
 
 // A record of at most `most` bytes at a position, whatever follows it: where it ends, or the first refusal in it. The fields that it
 // passes are noted, also those before a refusal.
-pub fn record(s: &[u8], x: Row, most: usize, at: usize, end: usize, places: &mut [usize]) -> Step
+pub fn record(
+    s: &[u8],
+    x: Row,
+    most: usize,
+    at: usize,
+    end: usize,
+    places: &mut [usize],
+) -> Result<usize, Refusal>
     ensures { (result, places.new) ≡ record_walk most (row_of x) s.now at end places.old }
 {
-    let h = items::outermost(s, most, Tag::Sequence, at, end);
-    let Seen::Item { start: a, end: z } = h else {
-        return edges::past(h);
-    };
-    row(s, x, 0, a, z, places)
+    let inside = items::outermost(s, most, Tag::Sequence, at, end)?;
+    row(s, x, 0, inside.start, inside.end, places)
 }

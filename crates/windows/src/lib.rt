@@ -7,56 +7,32 @@ ghost use Rattle.terms.specs.Answer.{same};
 ghost use Rattle.windows.specs.Window.{clamp};
 
 // The nearer of two ends.
+#[tactic(auto, unfolding(crate::specs::Window::clamp, terms::specs::Answer::pick))]
 pub fn nearer(end: usize, n: usize) -> usize
     ensures { result ≡ clamp end n }
 {
-    if end < n { end } else { n }
+    end.min(n)
 }
 
 // Whether a window from `a` to `z` has the byte that it needs; `empty`: it may have none.
 pub fn enough(a: usize, z: usize, empty: bool) -> bool
     ensures { result ≡ empty || ltb a z }
 {
-    if empty {
-        return true;
-    }
-    a < z
-}
-
-// A slice up to an end.
-fn upto(s: &[u8], z: usize) -> &[u8]
-    ensures { result.now ≡ take z s.now }
-{
-    if z <= s.len() { &s[..z] } else { s }
-}
-
-// A slice from a start on.
-fn onward(s: &[u8], a: usize) -> &[u8]
-    ensures { result.now ≡ drop a s.now }
-{
-    if a <= s.len() { &s[a..] } else { &s[..0] }
+    empty || a < z
 }
 
 // What stands from one position to another, as much of it as there is.
 pub fn window(s: &[u8], a: usize, z: usize) -> &[u8]
     ensures { result.now ≡ slice a z s.now }
 {
-    onward(upto(s, z), a)
+    let end = z.min(s.len());
+    if a < end { &s[a..end] } else { &[] }
 }
 
 // Whether a window has just the bytes of another.
+#[tactic(auto, using(crate::specs::Laws::Same::pointwise_same))]
 pub fn is_same(w: &[u8], v: &[u8]) -> bool
     ensures { result ≡ same w.now v.now }
 {
-    if w.len() != v.len() {
-        return false;
-    }
-    let mut i = 0;
-    while i < v.len() {
-        if w[i] != v[i] {
-            return false;
-        }
-        i += 1;
-    }
-    true
+    w == v
 }

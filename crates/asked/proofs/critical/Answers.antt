@@ -1,10 +1,10 @@
--- `asked::critical`: by the kind.
-use Rattle.asked.specs.Laws.{critical-kind-seal, critical-kind-signature}
+-- `asked::critical`: number by number.
+use Rattle.asked.specs.Laws.{critical-seal, critical_signed}
 use borrow.Author.Rules.{rules}
 use Rattle.asked.proofs.critical.Goals as goal
 
-pub returns-then-kind-eq0 : goal.returns-then-kind-eq0
-returns-then-kind-eq0 c = search (rules, critical-kind-seal)
+pub returns-in_default-eq24 : goal.returns-in_default-eq24
+returns-in_default-eq24 c = search (rules, critical-seal)
 
-pub returns : goal.returns
-returns c = search (rules, critical-kind-signature)
+pub returns-in-Signature-eq37 : goal.returns-in-Signature-eq37
+returns-in-Signature-eq37 c = search (rules, critical_signed)

@@ -1,10 +1,13 @@
--- `asked::items`: by the kind.
-use Rattle.asked.specs.Laws.{count-kind-seal, count-kind-signature}
+-- `asked::items`: number by number.
+use Rattle.asked.specs.Laws.{count_list, count-items, count_signed}
 use borrow.Author.Rules.{rules}
 use Rattle.asked.proofs.items.Goals as goal
 
-pub returns-then-kind-eq0 : goal.returns-then-kind-eq0
-returns-then-kind-eq0 c = search (rules, count-kind-seal)
+pub returns-in_default-eq8 : goal.returns-in_default-eq8
+returns-in_default-eq8 c = search (rules, count_list)
 
-pub returns : goal.returns
-returns c = search (rules, count-kind-signature)
+pub returns-in_default-eq21 : goal.returns-in_default-eq21
+returns-in_default-eq21 c = search (rules, count-items)
+
+pub returns-in-Signature-eq34 : goal.returns-in-Signature-eq34
+returns-in-Signature-eq34 c = search (rules, count_signed)

@@ -1,15 +1,9 @@
--- `characters::largest`: the loop keeps that the largest of all is the larger of what was passed and of what is left.
-use Prim.Native.Nat.{◌-◌}
-use native.Mathlib.Omega.{arith}
-use Rattle.characters.specs.Laws.{largest_on, largest_end}
-use borrow.Author.Rules.{rules}
+-- `characters::largest`: the larger of what was passed and of each byte.
+use Rattle.std.specs.Prelude.{max}
+use Rattle.std.proofs.Common.{rules}
+use Rattle.std.proofs.lemmas.Iterator.{YieldsList-from_slice}
+use Rattle.std.proofs.lemmas.Iterator.Consumers.{fold_from_yields_List}
 use Rattle.characters.proofs.largest.Goals as goal
 
-pub loop-i-init : goal.loop-i-init
-loop-i-init c = omega arith
-
-pub loop-i-preserved : goal.loop-i-preserved
-loop-i-preserved c = search (rules, largest_on)
-
 pub returns : goal.returns
-returns c = search (rules, largest_end)
+returns c = fold_from_yields_List _ max 0 _ c.fold.ensures.ran (YieldsList-from_slice c.args.w.now cc) (λ a x r q k. search rules)

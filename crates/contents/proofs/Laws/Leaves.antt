@@ -2,6 +2,7 @@
 use Rattle.std.specs.Prelude.{◌≡◌, refl, ℕ, ◌+◌, ◌≤◌, Bool, true, false, List, length, T, leb}
 use Rattle.std.proofs.Common.{arith}
 use Rattle.std.proofs.Math.Option.{some}
+use Rattle.terms.specs.declared.Reason.{Reason}
 use Rattle.terms.specs.Answer.{Res, good}
 use Rattle.terms.specs.Laws.Answer.{never, clash, and_l, and_r}
 use Rattle.contents.specs.Content.{Check, fine, wrong, ask, passes, judge}
@@ -12,7 +13,7 @@ use Rattle.contents.proofs.Laws.Integer.{stretch-there, stretch_back, stretch_ne
 
 -- ---- what a rule went through
 
-pub by_ask {ℓ} : {X : Type ℓ} (t : Bool) (n : ℕ) (k : Check) → ask t n k ≡ fine → (T t → k ≡ fine → X) → X
+pub by_ask {ℓ} : {X : Type ℓ} (t : Bool) (n : Reason) (k : Check) → ask t n k ≡ fine → (T t → k ≡ fine → X) → X
 unfolding ask
 by_ask true n k h f = f tt h
 by_ask false n k h f = never (cc)

@@ -1,10 +1,10 @@
 -- `counts::count`: four bytes, if they are there.
+use Rattle.std.proofs.Common.{rules}
 use Rattle.counts.specs.Laws.{count_cut, count-there}
-use borrow.Author.Rules.{rules}
 use Rattle.counts.proofs.count.Goals as goal
 
-pub returns-then-w-lt-COUNT_BYTES : goal.returns-then-w-lt-COUNT_BYTES
-returns-then-w-lt-COUNT_BYTES c = search (rules, count_cut)
+pub returns-in_default : goal.returns-in_default
+returns-in_default c = search (rules, count_cut)
 
-pub returns : goal.returns
-returns c = search (rules, count-there)
+pub returns-in-len4-up : goal.returns-in-len4-up
+returns-in-len4-up c = search (rules, count-there)

@@ -1,14 +1,12 @@
 -- `cuts::span`: inside the record, else nothing.
-use Rattle.cuts.specs.Laws.{cut-late, cut_long, cut_inside}
+use Rattle.cuts.specs.Laws.{cut_outside, cut_inside}
 use native.Mathlib.Omega.{arith}
 use mathlib.Core.Path.{refl}
 use Rattle.cuts.proofs.span.Goals as goal
+use Rattle.cuts.proofs.span.Goals.{else-start-s-via-then-start-s+else-length-s, else-start-s-via-else-start-s}
 
-pub returns-then-s-start : goal.returns-then-s-start
-returns-then-s-start c = cut-late _ _ refl refl _ _ c.if-s-start.true
-
-pub returns-then-s-start-2 : goal.returns-then-s-start-2
-returns-then-s-start-2 c = cut_long _ _ refl refl _ _ (omega arith) c.if-s-start-2.true
+pub returns-then-length-s : goal.returns-then-length-s
+returns-then-length-s c = cut_inside _ _ _ _ (omega arith) (omega arith) refl refl
 
 pub returns : goal.returns
-returns c = cut_inside _ _ _ _ (omega arith) (omega arith) refl refl
+returns c = cut_outside _ _ refl refl _ _ (elim c.else-start-s.branch [ else-start-s-via-then-start-s+else-length-s w ↦ omega arith | else-start-s-via-else-start-s w ↦ omega arith ])

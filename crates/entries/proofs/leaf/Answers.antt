@@ -3,8 +3,8 @@ use borrow.Author.Rules.{rules}
 use Rattle.entries.specs.Laws.{leaf_refused, leaf_taken}
 use Rattle.entries.proofs.leaf.Goals as goal
 
-pub returns-in_default : goal.returns-in_default
-returns-in_default c = search (rules, leaf_refused)
+pub returns-in_err-value : goal.returns-in_err-value
+returns-in_err-value c = search (rules, leaf_refused)
 
 pub returns : goal.returns
-returns c = search (rules, leaf_taken)
+returns c = search (rules, leaf_taken, c.in_ok-value.was)

@@ -1,10 +1,11 @@
 -- `fields::find`: by the table, or the refusal.
+use Rattle.terms.specs.Laws.Answer.{handed_on}
 use Rattle.fields.specs.Laws.{find_refused, find_under}
 use borrow.Author.Rules.{rules}
 use Rattle.fields.proofs.find.Goals as goal
 
-pub returns-in-Length : goal.returns-in-Length
-returns-in-Length c = search (rules, find_under)
+pub returns : goal.returns
+returns c = let h = c.in_ok-reading.was in search (rules, find_under)
 
-pub returns-in-Refused : goal.returns-in-Refused
-returns-in-Refused c = search (rules, find_refused)
+pub returns-in_err-reading : goal.returns-in_err-reading
+returns-in_err-reading c = let h = c.in_err-reading.was in let k = handed_on c.from_residual.result c.in_err-reading.field-0.0 c.from_residual.ensures in rw k (search (rules, find_refused))

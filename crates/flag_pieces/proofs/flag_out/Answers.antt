@@ -3,14 +3,14 @@ use borrow.Author.Rules.{rules}
 use Rattle.pieces.specs.Laws.{flag_none, flag_record, flag_one, flag_zero}
 use Rattle.flag_pieces.proofs.flag_out.Goals as goal
 
-pub returns-then-v : goal.returns-then-v
-returns-then-v c = search (rules, flag_record, flag_one, flag_zero)
+pub returns-in-Record-true : goal.returns-in-Record-true
+returns-in-Record-true c = search (rules, flag_record)
 
-pub returns-then-v-2 : goal.returns-then-v-2
-returns-then-v-2 c = search (rules, flag_record, flag_one, flag_zero)
+pub returns-in-Record-false : goal.returns-in-Record-false
+returns-in-Record-false c = search (rules, flag_none)
 
-pub returns-else-v : goal.returns-else-v
-returns-else-v c = search (rules, flag_none, flag_record, flag_one, flag_zero)
+pub returns-in-Sheet-true : goal.returns-in-Sheet-true
+returns-in-Sheet-true c = search (rules, flag_one)
 
-pub returns-else-v-2 : goal.returns-else-v-2
-returns-else-v-2 c = search (rules, flag_record, flag_one, flag_zero)
+pub returns-in-Sheet-false : goal.returns-in-Sheet-false
+returns-in-Sheet-false c = search (rules, flag_zero)

@@ -1,4 +1,4 @@
--- `fronts::count`: its four bytes in two goes.
+-- `fronts::count`: the last four of a number's eight bytes.
 use Rattle.fronts.specs.Laws.{count-put}
 use borrow.Author.Rules.{rules}
 use Rattle.fronts.proofs.count.Goals as goal

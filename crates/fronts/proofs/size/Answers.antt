@@ -12,5 +12,5 @@ returns-then-n-lt256 c = search (rules, size_one)
 pub returns-then-n-lt65536 : goal.returns-then-n-lt65536
 returns-then-n-lt65536 c = search (rules, size_two)
 
-pub returns : goal.returns
-returns c = search (rules, size_none)
+pub returns-else-n-lt65536 : goal.returns-else-n-lt65536
+returns-else-n-lt65536 c = search (rules, size_none)

@@ -3,7 +3,8 @@ use Rattle.std.specs.Prelude.{◌≡◌, refl, ℕ, ◌+◌, ◌≤◌, ◌<◌,
 use Rattle.std.proofs.Common.{ap, ◌∙◌, arith, length-append, leb→le, le-leb}
 use Rattle.std.proofs.Math.Option.{Option, none, some}
 use Rattle.std.proofs.lemmas.List.{take-append-le, drop-append-le}
-use Rattle.terms.specs.Numbers.{bad_length, other_tag, too_large}
+use Rattle.terms.specs.declared.Reason.{Reason}
+use Rattle.terms.specs.declared.Reason.TheVariants.{BadLength, OtherTag, TooLarge}
 use Rattle.terms.specs.Answer.{Res, good, fault, pick, bind, unread, need, have, every}
 use Rattle.terms.specs.Digits.{is_byte, number, leading}
 use Rattle.terms.specs.Laws.Answer.{test, and_l, and_r, is_true, is_false}
@@ -33,7 +34,7 @@ leading-more k w z h =
     go true = refl
     go false = refl
 
-need-more : (z : List ℕ) (t : Bool) (n p : ℕ) (r : Res Size) → need t n p (more_size z r) ≡ more_size z (need t n p r)
+need-more : (z : List ℕ) (t : Bool) (n : Reason) (p : ℕ) (r : Res Size) → need t n p (more_size z r) ≡ more_size z (need t n p r)
 unfolding need
 need-more z true n p r = refl
 need-more z false n p r = refl
@@ -52,7 +53,7 @@ unspell-more (f ∷ fs) p a w z h =
     let k = unspell-more fs p a w z (and_r (leb f.bytes (length w)) _ h) in
     rw (leading-more f.bytes w z l, k, read (leading f.bytes w)) (pick_more z (eqb a f.octet) _ _)
   where
-    read : (o : Option (ℕ × List ℕ)) → (bind (have (more_some z o) bad_length p) λ x. good (sized (2 + f.bytes) x.0 x.1)) ≡ more_size z (bind (have o bad_length p) λ x. good (sized (2 + f.bytes) x.0 x.1))
+    read : (o : Option (ℕ × List ℕ)) → (bind (have (more_some z o) BadLength p) λ x. good (sized (2 + f.bytes) x.0 x.1)) ≡ more_size z (bind (have o BadLength p) λ x. good (sized (2 + f.bytes) x.0 x.1))
     read none = refl
     read (some x) = refl
 
@@ -66,14 +67,14 @@ size-more p (a ∷ w) z h =
     rw (unspell-more forms p a w z (rw (le-leb 1 (length w) l, le-leb 2 (length w) k) tt), pick_more z (ltb a 128) (good (sized 2 a w)) (unspell forms p a w))
     (go (pick (ltb a 128) (good (sized 2 a w)) (unspell forms p a w)))
   where
-    go : (r : Res Size) → (bind (more_size z r) λ x. need (is_shortest forms x) bad_length p (good x)) ≡ more_size z (bind r λ x. need (is_shortest forms x) bad_length p (good x))
-    go (good x) = need-more z (is_shortest forms x) bad_length p (good x)
+    go : (r : Res Size) → (bind (more_size z r) λ x. need (is_shortest forms x) BadLength p (good x)) ≡ more_size z (bind r λ x. need (is_shortest forms x) BadLength p (good x))
+    go (good x) = need-more z (is_shortest forms x) BadLength p (good x)
     go (fault n q) = refl
 
 opening-more : (t : ℕ) (w z : List ℕ) (b : ℕ) → 4 ≤ length w → opening forms t (w ++ z) b ≡ more_size z (opening forms t w b)
 unfolding opening
 opening-more t [] z b h = absurd (omega arith)
-opening-more t (x ∷ w) z b h = ap (need (eqb x t) other_tag b) (size-more b w z (omega arith)) ∙ need-more z (eqb x t) other_tag b _
+opening-more t (x ∷ w) z b h = ap (need (eqb x t) OtherTag b) (size-more b w z (omega arith)) ∙ need-more z (eqb x t) OtherTag b _
 
 -- of a window with more bytes than the largest record has
 pub outermost-more : (most t : ℕ) (w z : List ℕ) (b : ℕ) → most < length w → 4 ≤ length w → outermost forms most t (w ++ z) b ≡ more_cut z (outermost forms most t w b)
@@ -81,7 +82,7 @@ unfolding outermost bind need cut
 outermost-more most t w z b m h = rw (opening-more t w z b h) (go (opening forms t w b) refl)
   where
     held : (x : Size) → length w ≡ x.header + length x.rest
-        → need (leb (x.header + x.content) most) too_large b (cut b (sized x.header x.content (x.rest ++ z))) ≡ more_cut z (need (leb (x.header + x.content) most) too_large b (cut b x))
+        → need (leb (x.header + x.content) most) TooLarge b (cut b (sized x.header x.content (x.rest ++ z))) ≡ more_cut z (need (leb (x.header + x.content) most) TooLarge b (cut b x))
     held x l = test (leb (x.header + x.content) most)
         (λ y. let k : x.header + x.content ≤ most = leb→le _ _ y in
         let n : ℕ = x.content in
@@ -90,7 +91,7 @@ outermost-more most t w z b m h = rw (opening-more t w z b h) (go (opening forms
         rw (is_true (leb (x.header + n) most) y, le-leb n (length x.rest) i, le-leb n (length (x.rest ++ z)) j, take-append-le n x.rest z i, drop-append-le n x.rest z i) refl)
         (λ y. rw (is_false (leb (x.header + x.content) most) y) refl)
 
-    go : (r : Res Size) → opening forms t w b ≡ r → (bind (more_size z r) λ x. need (leb (x.header + x.content) most) too_large b (cut b x)) ≡ more_cut z (bind r λ x. need (leb (x.header + x.content) most) too_large b (cut b x))
+    go : (r : Res Size) → opening forms t w b ≡ r → (bind (more_size z r) λ x. need (leb (x.header + x.content) most) TooLarge b (cut b x)) ≡ more_cut z (bind r λ x. need (leb (x.header + x.content) most) TooLarge b (cut b x))
     go (good x) e = held x (opening_rest t w b x e).0
     go (fault n p) e = refl
 

@@ -9,5 +9,5 @@ returns-in_default c = search (rules, integer-bad)
 pub returns-then-is_allowed : goal.returns-then-is_allowed
 returns-then-is_allowed c = search (rules, integer_good)
 
-pub returns : goal.returns
-returns c = search (rules, integer-other)
+pub returns-else-is_allowed : goal.returns-else-is_allowed
+returns-else-is_allowed c = search (rules, integer-other)

@@ -9,5 +9,5 @@ returns-in_default c = search (rules, version-bad)
 pub returns-then-is_same : goal.returns-then-is_same
 returns-then-is_same c = search (rules, version_good)
 
-pub returns : goal.returns
-returns c = search (rules, version-other)
+pub returns-else-is_same : goal.returns-else-is_same
+returns-else-is_same c = search (rules, version-other)

@@ -3,11 +3,11 @@ use borrow.Author.Rules.{rules}
 use Rattle.pieces.specs.Laws.{known_none, known_name, known_version}
 use Rattle.known_pieces.proofs.known_out.Goals as goal
 
-pub returns-in-HeaderName : goal.returns-in-HeaderName
-returns-in-HeaderName c = search (rules, known_name, known_version)
+pub returns-in-Record-HeaderName : goal.returns-in-Record-HeaderName
+returns-in-Record-HeaderName c = search (rules, known_name)
 
-pub returns-in-Version : goal.returns-in-Version
-returns-in-Version c = search (rules, known_name, known_version)
+pub returns-in-Record-Version : goal.returns-in-Record-Version
+returns-in-Record-Version c = search (rules, known_version)
 
-pub returns-in-Sheet : goal.returns-in-Sheet
-returns-in-Sheet c = search (rules, known_none, known_name, known_version)
+pub returns-in-Sheet-default : goal.returns-in-Sheet-default
+returns-in-Sheet-default c = search (rules, known_none)

@@ -1,33 +1,31 @@
 -- A refused record notes behind the table of places what it is refused about: `marks` agrees with `about`, for every layout. Assumes nothing.
-use Rattle.std.specs.Prelude.{◌≡◌, Bool, true, false, not, length, get_or, set, replicate, T, eqb}
+use Rattle.std.specs.Prelude.{◌≡◌, Bool, true, false, not, length, get_or, set, replicate, T, eqb, Ok, Err}
 use Rattle.std.proofs.Math.Path.{refl}
 use Rattle.std.proofs.Common.{sym, ◌∙◌, arith, length-set, get_or-set_same, lt-ltb, ne_eqb}
 use Prim.Native.Nat.{ℕ, suc, zero, ◌+◌, ◌-◌, ◌≤◌, ◌<◌}
 use mathlib.Core.List.{List, [], ◌∷◌, ◌++◌}
 use Rattle.std.proofs.lemmas.List.{length-replicate}
 use Rattle.std.proofs.Math.Seq.{take-length, slice}
+use Rattle.terms.specs.declared.Reason.{Reason}
 use Rattle.terms.specs.declared.Field.{Field}
 use Rattle.terms.specs.Names.{code, name_of}
-use Rattle.terms.specs.Numbers.{left_over, too_many_items}
-use Rattle.terms.specs.Answer.{Res, good, fault, Got, got, pick, bind, unread, need, enough, finish}
+use Rattle.terms.specs.declared.Reason.TheVariants.{LeftOver, TooManyItems}
+use Rattle.terms.specs.Answer.{Res, good, fault, Got, got, pick, bind, unread, need, enough, finish, Answer, refused}
 use Rattle.terms.specs.Laws.Answer.{never, test, by_bind, is_true, is_false}
 use Rattle.terms.specs.Laws.Names.{name_code}
+use Rattle.terms.specs.declared.Refusal.{Refusal}
 use Rattle.heads.specs.Head.{forms, Cut, outermost}
 use Rattle.heads.specs.Scan.{seen, head_at, outermost_at}
 use Rattle.heads.proofs.Laws.Head.{outermost_back}
 use Rattle.heads.proofs.Laws.More.{inside-more}
-use Rattle.heads.specs.declared.Step.{Step}
-use Rattle.heads.specs.declared.Step.TheVariants.{Next, Refused}
 use Rattle.contents.specs.Leaves.{Leaf, boolean, only}
 use Rattle.layouts.specs.Layout.{Item, leaf, node, list, wrap, Members, end, ◌▸◌, Member, known, one, maybe, flag, choose, tag_of, Values}
 use Rattle.layouts.specs.Reading.{next, read_leaf, begins, many, read_option, read_flag, read_either, read, reads, read_part}
 use Rattle.layouts.specs.Whole.{sequence, record_at, accept}
-use Rattle.layouts.specs.Scan.{scan, whole_scan}
+use Rattle.layouts.specs.Scan.{then_step, scan, whole_scan}
 use Rattle.layouts.specs.Places.{table_size}
-use Rattle.layouts.specs.Marks.{noted, unblamed, blamed, blaming, after_seen, after_step, after_tally, then_tally, tally, many_marks, leaf_marks, marks, marks_all, marks_part, record_marks}
+use Rattle.layouts.specs.Marks.{noted, unblamed, blamed, blaming, after_seen, after_step, tally, many_marks, leaf_marks, marks, marks_all, marks_part, record_marks}
 use Rattle.layouts.specs.About.{about_many, about, about_all, about_part, record_about}
-use Rattle.layouts.specs.declared.Tally.{Tally}
-use Rattle.layouts.specs.declared.Tally.TheVariants.{Items, Refused as Uncounted}
 use Rattle.layouts.specs.declared.Whose.{Whose}
 use Rattle.layouts.specs.declared.Whose.TheVariants.{Nothing, Record, Field as field}
 use Rattle.layouts.proofs.Laws.Scan.{by_window, Onward, step, whole, head-parts, leaf_parts, leaf_agree, begins-agree, enough-agree, close_agree, item_on, part_on, scan-read, scans-read, part-read, whole-accept}
@@ -80,11 +78,11 @@ After (good a) x y d = Fresh d
 After (fault n p) x y d = Blames x y d
 
 -- after items that are counted
-abbrev AfterTally : {A : Type 0} → Tally → Res A → Whose → Whose → List ℕ → Type 0
-AfterTally (Items c) (good v) x y d = Fresh d
-AfterTally (Items c) (fault n p) x y d = ⊥
-AfterTally (Uncounted c q) (good v) x y d = ⊥
-AfterTally (Uncounted c q) (fault n p) x y d = Blames x y d
+abbrev AfterTally : {A : Type 0} → Answer ℕ → Res A → Whose → Whose → List ℕ → Type 0
+AfterTally (Ok c) (good v) x y d = Fresh d
+AfterTally (Ok c) (fault n p) x y d = ⊥
+AfterTally (Err e) (good v) x y d = ⊥
+AfterTally (Err e) (fault n p) x y d = Blames x y d
 
 fresh_after : {A : Type 0} (r : Res A) (x : Whose) (d : List ℕ) → Fresh d → After r x x d
 fresh_after (good a) x d h = h
@@ -95,18 +93,18 @@ unfolding bind
 after_map (good a) k x y d h = h
 after_map (fault n p) k x y d h = h
 
-tally-map : {A B : Type 0} (t : Tally) (r : Res A) (k : A → B) (x y : Whose) (d : List ℕ) → AfterTally t r x y d → AfterTally t (bind r λ a. good (k a)) x y d
+tally-map : {A B : Type 0} (t : Answer ℕ) (r : Res A) (k : A → B) (x y : Whose) (d : List ℕ) → AfterTally t r x y d → AfterTally t (bind r λ a. good (k a)) x y d
 unfolding bind
 tally-map {A} {B} t (good a) k x y d h = go t h
   where
-    go : (t : Tally) → AfterTally t (good a) x y d → AfterTally t (good (k a)) x y d
-    go (Items c) g = g
-    go (Uncounted c q) g = g
+    go : (t : Answer ℕ) → AfterTally t (good a) x y d → AfterTally t (good (k a)) x y d
+    go (Ok c) g = g
+    go (Err e) g = g
 tally-map {A} {B} t (fault n p) k x y d h = go t h
   where
-    go : (t : Tally) → AfterTally {A = A} t (fault n p) x y d → AfterTally {A = B} t (fault n p) x y d
-    go (Items c) g = g
-    go (Uncounted c q) g = g
+    go : (t : Answer ℕ) → AfterTally {A = A} t (fault n p) x y d → AfterTally {A = B} t (fault n p) x y d
+    go (Ok c) g = g
+    go (Err e) g = g
 
 -- a head, and what stands in it
 after-head : {A : Type 0} (h : Res Cut) (k : Cut → Res A) (f : Field) (x : Whose) (y : Cut → Whose) (d : List ℕ) (m : ℕ → ℕ → List ℕ) → Fresh d
@@ -142,13 +140,13 @@ after-pick true r r' x y d d' h h' = h
 after-pick false r r' x y d d' h h' = h'
 
 -- a list's items, and then the list
-after_list : {A B : Type 0} (t : Tally) (r : Res A) (k : A → B) (f : Field) (x y : Whose) (d : List ℕ) (m : ℕ → List ℕ) → AfterTally t r (field f) y d → ((c : ℕ) → Fresh d → Fresh (m c))
-    → After (bind r λ a. good (k a)) x y (after_tally t (blamed f d) m)
+after_list : {A B : Type 0} (t : Answer ℕ) (r : Res A) (k : A → B) (f : Field) (x y : Whose) (d : List ℕ) (m : ℕ → List ℕ) → AfterTally t r (field f) y d → ((c : ℕ) → Fresh d → Fresh (m c))
+    → After (bind r λ a. good (k a)) x y (after_step t (blamed f d) m)
 unfolding bind
-after_list (Items c) (good a) k f x y d m h g = g c h
-after_list (Items c) (fault n p) k f x y d m h g = absurd h
-after_list (Uncounted c q) (good a) k f x y d m h g = absurd h
-after_list (Uncounted c q) (fault n p) k f x y d m h g = blamed_blames f x y d h
+after_list (Ok c) (good a) k f x y d m h g = g c h
+after_list (Ok c) (fault n p) k f x y d m h g = absurd h
+after_list (Err e) (good a) k f x y d m h g = absurd h
+after_list (Err e) (fault n p) k f x y d m h g = blamed_blames f x y d h
 
 -- an item that is left out, or one of two
 after-either : {A : Type 0} (t : Bool) (r r' : Res A) (x y y' : Whose) (d d' : List ℕ) → After r x y d → After r' x y' d' → After (pick t r r') x (pick t y y') (pick t d d')
@@ -181,17 +179,17 @@ module _ (s : List ℕ) where
       go (fault n q) = blamed_blames f x (field f) d (fresh_blames (field f) d o)
 
   -- a list's items
-  module _ {A : Type 0} (f : ℕ → Step) (m : ℕ → ℕ → List ℕ → List ℕ) (g : List ℕ → ℕ → Res (Got A)) (y : List ℕ → ℕ → Whose) (x : Whose) (e : ℕ) (es : e ≤ length s)
+  module _ {A : Type 0} (f : ℕ → Answer ℕ) (m : ℕ → ℕ → List ℕ → List ℕ) (g : List ℕ → ℕ → Res (Got A)) (y : List ℕ → ℕ → Whose) (x : Whose) (e : ℕ) (es : e ≤ length s)
       (like : (p : ℕ) → p ≤ e → f p ≡ step (g (slice p e s) p))
       (on : (p : ℕ) → p ≤ e → (v : Got A) → g (slice p e s) p ≡ good v → Onward s p e v.rest v.after)
       (mark : (j p : ℕ) → p ≤ e → (d : List ℕ) → Fresh d → After (g (slice p e s) p) x (y (slice p e s) p) (m j p d)) where
     many-after : (n j p : ℕ) → p ≤ e → (d : List ℕ) → Fresh d → AfterTally (tally f n j p e) (many g n (slice p e s) p) x (about_many g y x n (slice p e s) p) (many_marks f m n j p e d)
     unfolding tally many_marks many about_many pick bind
     many-after zero j p pe d o =
-        by_window s p e (λ u w. AfterTally (pick u (Uncounted too_many_items p) (Items j)) (many g zero w p) x (about_many g y x zero w p) d) pe es o (fresh_blames x d o)
+        by_window s p e (λ u w. AfterTally (pick u (refused TooManyItems p) (Ok j)) (many g zero w p) x (about_many g y x zero w p) d) pe es o (fresh_blames x d o)
     many-after (suc n) j p pe d o =
         by_window s p e
-        (λ u w. w ≡ slice p e s → AfterTally (pick u (then_tally (f p) λ q. tally f n (suc j) q e) (Items j)) (many g (suc n) w p) x (about_many g y x (suc n) w p)
+        (λ u w. w ≡ slice p e s → AfterTally (pick u (then_step (f p) λ q. tally f n (suc j) q e) (Ok j)) (many g (suc n) w p) x (about_many g y x (suc n) w p)
         (pick u (after_step (f p) (m j p d) λ q. many_marks f m n (suc j) q e (m j p d)) d))
         pe es
         (λ w. o)
@@ -200,7 +198,7 @@ module _ (s : List ℕ) where
       where
         go : ((q : ℕ) → q ≤ e → (c : List ℕ) → Fresh c → AfterTally (tally f n (suc j) q e) (many g n (slice q e s) q) x (about_many g y x n (slice q e s) q) (many_marks f m n (suc j) q e c))
             → (r : Res (Got A)) → g (slice p e s) p ≡ r → After r x (y (slice p e s) p) (m j p d)
-            → AfterTally (then_tally (step r) λ q. tally f n (suc j) q e) (bind r λ a. bind (many g n a.rest a.after) λ xs. good (a.value ∷ xs)) x
+            → AfterTally (then_step (step r) λ q. tally f n (suc j) q e) (bind r λ a. bind (many g n a.rest a.after) λ xs. good (a.value ∷ xs)) x
             (unread r (y (slice p e s) p) λ a. about_many g y x n a.rest a.after) (after_step (step r) (m j p d) λ q. many_marks f m n (suc j) q e (m j p d))
         go more (good a) q h =
             let i = on p pe a q in
@@ -229,7 +227,7 @@ module _ (s : List ℕ) where
         (λ q a. item_on s i q (next c) a u')
         (λ j q a y v. item_after i g j q (next c) a u' (field f) y v)
         n 0 c.start u d o in
-        let y : Tally = tally (λ q. scan i s q (next c)) n 0 c.start (next c) in
+        let y : Answer ℕ = tally (λ q. scan i s q (next c)) n 0 c.start (next c) in
         let z : List ℕ = many_marks (λ q. scan i s q (next c)) (λ j q y. marks i g j s q (next c) y) n 0 c.start (next c) d in
         rw (enough-agree s k' c.start (next c) u u', ← b.0)
         (test (enough k' c.content)
@@ -244,11 +242,11 @@ module _ (s : List ℕ) where
         rw (scan-read s i c.start (next c) u u', ← b.0)
         (after-step _ _ x _ _ _ _ (rw (← b.0) at (item_after i f k c.start (next c) u u' x d o)) λ a q v.
         let w = item_on s i c.start (next c) u u' a (rw (← b.0) q) in
-        rw (close_agree s a (next c) w.0 w.2 u') (after-blaming (finish left_over a) (next c) _ f x (field f) _ (fresh_after (finish left_over a) (field f) _ v)))
+        rw (close_agree s a (next c) w.0 w.2 u') (after-blaming (finish LeftOver a) (next c) _ f x (field f) _ (fresh_after (finish LeftOver a) (field f) _ v)))
 
     -- so do the members of `x`
     all_after : (r : Members) (k p e : ℕ) → p ≤ e → e ≤ length s → (x : Whose) (d : List ℕ) → Fresh d → After (reads r (slice p e s) p) x (about_all r x (slice p e s) p) (marks_all r k s p e d)
-    all_after end k p e pe es x d o = fresh_after (finish left_over (got tt (slice p e s) p)) x d o
+    all_after end k p e pe es x d o = fresh_after (finish LeftOver (got tt (slice p e s) p)) x d o
     all_after (m ▸ r) k p e pe es x d o =
         rw (part-read s m p e pe es)
         (after-step _ _ x _ _ _ _ (part-after m k p e pe es x d o) λ a q v.
@@ -288,12 +286,12 @@ module _ (most : ℕ) (r : Members) (s d : List ℕ) (o : Fresh d) where
       rw w (go (outermost forms most sequence s 0) refl)
     where
       rest : (c : Cut) (y : Res (Values r)) → reads r c.content c.start ≡ y → After y Record (about_all r Record c.content c.start) (marks_all r 0 s c.start (next c) d)
-          → After (bind (bind y λ v. good (got v c.rest (next c))) λ a. finish left_over a) Record (about_all r Record c.content c.start) (marks_all r 0 s c.start (next c) d)
-      rest c (good v) q h = rw (about-read r Record c.content c.start v q) (fresh_after (finish left_over (got v c.rest (next c))) Record _ h)
+          → After (bind (bind y λ v. good (got v c.rest (next c))) λ a. finish LeftOver a) Record (about_all r Record c.content c.start) (marks_all r 0 s c.start (next c) d)
+      rest c (good v) q h = rw (about-read r Record c.content c.start v q) (fresh_after (finish LeftOver (got v c.rest (next c))) Record _ h)
       rest c (fault n p) q h = h
 
       go : (h : Res Cut) → outermost forms most sequence s 0 ≡ h
-          → After (bind (bind h λ c. bind (reads r c.content c.start) λ v. good (got v c.rest (next c))) λ a. finish left_over a) Record (unread h Record λ c. about_all r Record c.content c.start)
+          → After (bind (bind h λ c. bind (reads r c.content c.start) λ v. good (got v c.rest (next c))) λ a. finish LeftOver a) Record (unread h Record λ c. about_all r Record c.content c.start)
           (after_seen (seen h) d λ a z. marks_all r 0 s a z d)
       go (good c) q =
           let w : slice 0 (length s) s ≡ s = take-length s in
@@ -302,21 +300,21 @@ module _ (most : ℕ) (r : Members) (s d : List ℕ) (o : Fresh d) where
       go (fault n p) q = fresh_blames Record d o
 
   -- what it is refused about stands behind the table
-  pub about-told : (n q : ℕ) → whole_scan most r s ≡ Refused n q → whose_by Record (behind_table (record_marks most r s 0 (length s) d)) ≡ record_about most r s
+  pub about-told : (e : Refusal) → whole_scan most r s ≡ Err e → whose_by Record (behind_table (record_marks most r s 0 (length s) d)) ≡ record_about most r s
   unfolding record_about
-  about-told n q h = go (accept most r s) (sym (whole-accept most r s) ∙ h) record_after
+  about-told e h = go (accept most r s) (sym (whole-accept most r s) ∙ h) record_after
     where
-      go : (y : Res (Values r)) → whole (length s) y ≡ Refused n q → After y Record (in_record s) (record_marks most r s 0 (length s) d)
+      go : (y : Res (Values r)) → whole (length s) y ≡ Err e → After y Record (in_record s) (record_marks most r s 0 (length s) d)
           → whose_by Record (behind_table (record_marks most r s 0 (length s) d)) ≡ (unread y (in_record s) λ v. Nothing)
       go (good v) g k = never (cc)
       go (fault m p) g k = k.1
 
 -- where it is accepted there is nothing
-pub about_nothing : (most : ℕ) (r : Members) (s : List ℕ) (n : ℕ) → whole_scan most r s ≡ Next n → Nothing ≡ record_about most r s
+pub about_nothing : (most : ℕ) (r : Members) (s : List ℕ) (n : ℕ) → whole_scan most r s ≡ Ok n → Nothing ≡ record_about most r s
 unfolding record_about
 about_nothing most r s n h = go (accept most r s) (sym (whole-accept most r s) ∙ h)
   where
-    go : (y : Res (Values r)) → whole (length s) y ≡ Next n
+    go : (y : Res (Values r)) → whole (length s) y ≡ Ok n
         → Nothing ≡ (unread y (unread (outermost forms most sequence s 0) Record λ c. about_all r Record c.content c.start) λ v. Nothing)
     go (good v) g = refl
     go (fault m p) g = never (cc)
@@ -334,8 +332,8 @@ named k = go (eqb k 0)
     go true h = never (cc)
     go false h = never (cc)
 
-pub refused_about : (most : ℕ) (r : Members) (s : List ℕ) (n p : ℕ) → accept most r s ≡ fault n p → record_about most r s ≡ Nothing → ⊥
-refused_about most r s n p e q = named (behind_table (record_marks most r s 0 (length s) d)) (about-told most r s d fresh n p (whole-accept most r s ∙ rw e) ∙ q)
+pub refused_about : (most : ℕ) (r : Members) (s : List ℕ) (n : Reason) (p : ℕ) → accept most r s ≡ fault n p → record_about most r s ≡ Nothing → ⊥
+refused_about most r s n p e q = named (behind_table (record_marks most r s 0 (length s) d)) (about-told most r s d fresh (record { reason = n; place = p }) (whole-accept most r s ∙ rw e) ∙ q)
   where
     d : List ℕ
     d = replicate (table_size + 1) 0

@@ -1,5 +1,5 @@
 -- A record that is read notes the fields that it passes, also where it is refused: `marks` agrees with `passed`, for every layout. Assumes nothing.
-use Rattle.std.specs.Prelude.{◌≡◌, Bool, true, false, ◌&&◌, length, get_or, set, take, eqb, ltb}
+use Rattle.std.specs.Prelude.{◌≡◌, Bool, true, false, ◌&&◌, length, get_or, set, take, eqb, ltb, Ok, Err}
 use Rattle.std.proofs.Math.Path.{refl}
 use Rattle.std.proofs.Common.{sym, ◌∙◌, length-set, get_or-take, length-take-le, lt-ltb}
 use Prim.Native.Nat.{ℕ, suc, zero, ◌+◌, ◌-◌, ◌≤◌, ◌<◌}
@@ -9,26 +9,22 @@ use Rattle.std.proofs.Math.Seq.{take-length, slice, take-set-lt}
 use Rattle.std.proofs.lemmas.List.{take-set-le}
 use Rattle.terms.specs.declared.Field.{Field}
 use Rattle.terms.specs.Names.{code}
-use Rattle.terms.specs.Numbers.{too_many_items}
-use Rattle.terms.specs.Answer.{Res, good, fault, Got, pick, bind, need, enough}
+use Rattle.terms.specs.declared.Reason.TheVariants.{TooManyItems}
+use Rattle.terms.specs.Answer.{Res, good, fault, Got, pick, bind, need, enough, Answer, refused}
 use Rattle.terms.specs.Laws.Answer.{test, is_true, is_false}
 use Rattle.terms.specs.Laws.Names.{code_below}
 use Rattle.heads.specs.Head.{forms, Cut, head, outermost, tlv}
 use Rattle.heads.specs.Scan.{seen, head_at, outermost_at, close_at}
 use Rattle.heads.proofs.Laws.Head.{head_back, length-tlv, outermost_back}
-use Rattle.heads.specs.declared.Step.{Step}
-use Rattle.heads.specs.declared.Step.TheVariants.{Next, Refused}
 use Rattle.contents.specs.Leaves.{Leaf, boolean}
 use Rattle.layouts.specs.Layout.{Item, leaf, node, list, wrap, Members, end, ◌▸◌, Member, known, one, maybe, flag, choose, tag_of}
 use Rattle.layouts.specs.Reading.{next, read_leaf, begins, many, read_option, read_flag, read_either, read, read_part}
 use Rattle.layouts.specs.Whole.{sequence}
-use Rattle.layouts.specs.Scan.{scan, scans}
+use Rattle.layouts.specs.Scan.{then_step, scan, scans}
 use Rattle.layouts.specs.Fields.{Entry, list_entry}
 use Rattle.layouts.specs.Places.{table_size, wanted_at, wanted, slot, under, Placed}
-use Rattle.layouts.specs.Marks.{free, filled, noted, notes, unblamed, blamed, blaming, after_seen, after_step, after_tally, then_tally, tally, many_marks, leaf_marks, marks, marks_all, marks_part, record_marks}
+use Rattle.layouts.specs.Marks.{free, filled, noted, notes, unblamed, blamed, blaming, after_seen, after_step, tally, many_marks, leaf_marks, marks, marks_all, marks_part, record_marks}
 use Rattle.layouts.specs.Passed.{of_read, passed_leaf, passed_many, passed, passed_all, passed_part, record_passed}
-use Rattle.layouts.specs.declared.Tally.{Tally}
-use Rattle.layouts.specs.declared.Tally.TheVariants.{Items, Refused as Uncounted}
 use Rattle.layouts.proofs.Laws.Scan.{by_window, Onward, step, head-parts, leaf_parts, leaf_agree, begins-agree, enough-agree, item_on, part_on, scan-read, part-read}
 use Rattle.layouts.proofs.Laws.Places.{blank, placed}
 use Rattle.layouts.proofs.Laws.About.{not-enough}
@@ -68,13 +64,13 @@ front-blamed f d d' (r, q) = go (unblamed d)
     go true = (rw (length-set d table_size (code f + 1)) r, take-set-le table_size d table_size (code f + 1) (omega arith) ∙ q)
     go false = (r, q)
 
-front-blaming : (x : Step) (f : Field) (d d' : List ℕ) → Front d d' → Front (blaming x f d) d'
-front-blaming (Next q) f d d' h = h
-front-blaming (Refused n p) f d d' h = front-blamed f d d' h
+front-blaming : (x : Answer ℕ) (f : Field) (d d' : List ℕ) → Front d d' → Front (blaming x f d) d'
+front-blaming (Ok q) f d d' h = h
+front-blaming (Err e) f d d' h = front-blamed f d d' h
 
-front-after : (x : Step) (d d' : List ℕ) (m : ℕ → List ℕ) → Front d d' → ((q : ℕ) → Front (m q) d') → Front (after_step x d m) d'
-front-after (Next q) d d' m h g = g q
-front-after (Refused n p) d d' m h g = h
+front-after : (x : Answer ℕ) (d d' : List ℕ) (m : ℕ → List ℕ) → Front d d' → ((q : ℕ) → Front (m q) d') → Front (after_step x d m) d'
+front-after (Ok q) d d' m h g = g q
+front-after (Err e) d d' m h g = h
 
 -- to note two lists in a row is to note the second after the first
 notes-append : (xs ys : List Entry) (d : List ℕ) → notes (xs ++ ys) d ≡ notes ys (notes xs d)
@@ -107,28 +103,28 @@ front-pick true d e d' xs ys h g = h
 front-pick false d e d' xs ys h g = g
 
 -- items that are counted, `j` of them before here, are those that were read
-abbrev Counts : {A : Type 0} → ℕ → Tally → Res (List A) → Type 0
-Counts j (Items c) (good xs) = c ≡ j + length xs
-Counts j (Items c) (fault n p) = ⊥
-Counts j (Uncounted c q) (good xs) = ⊥
-Counts j (Uncounted c q) (fault n p) = Unit {0}
+abbrev Counts : {A : Type 0} → ℕ → Answer ℕ → Res (List A) → Type 0
+Counts j (Ok c) (good xs) = c ≡ j + length xs
+Counts j (Ok c) (fault n p) = ⊥
+Counts j (Err e) (good xs) = ⊥
+Counts j (Err e) (fault n p) = Unit {0}
 
 -- one item more
-counts_more : {A : Type 0} (j : ℕ) (t : Tally) (r : Res (List A)) (a : A) → Counts (suc j) t r → Counts j t (bind r λ xs. good (a ∷ xs))
+counts_more : {A : Type 0} (j : ℕ) (t : Answer ℕ) (r : Res (List A)) (a : A) → Counts (suc j) t r → Counts j t (bind r λ xs. good (a ∷ xs))
 unfolding bind
-counts_more j (Items c) (good xs) a h = omega arith
-counts_more j (Items c) (fault n p) a h = h
-counts_more j (Uncounted c q) (good xs) a h = h
-counts_more j (Uncounted c q) (fault n p) a h = h
+counts_more j (Ok c) (good xs) a h = omega arith
+counts_more j (Ok c) (fault n p) a h = h
+counts_more j (Err e) (good xs) a h = h
+counts_more j (Err e) (fault n p) a h = h
 
 -- a list's items, and then the list
-front_list : {A : Type 0} (t : Tally) (r : Res (List A)) (f : Field) (d d' : List ℕ) (m : ℕ → List ℕ) (xs : List A → List Entry) → Counts 0 t r → Front d d'
-    → ((vs : List A) → Front (m (length vs)) (notes (xs vs) d')) → Front (after_tally t (blamed f d) m) (notes (of_read r xs) d')
+front_list : {A : Type 0} (t : Answer ℕ) (r : Res (List A)) (f : Field) (d d' : List ℕ) (m : ℕ → List ℕ) (xs : List A → List Entry) → Counts 0 t r → Front d d'
+    → ((vs : List A) → Front (m (length vs)) (notes (xs vs) d')) → Front (after_step t (blamed f d) m) (notes (of_read r xs) d')
 unfolding notes
-front_list (Items c) (good vs) f d d' m xs h o g = let e : length vs ≡ c = omega arith in rw (← e) (g vs)
-front_list (Items c) (fault n p) f d d' m xs h o g = absurd h
-front_list (Uncounted c q) (good vs) f d d' m xs h o g = absurd h
-front_list (Uncounted c q) (fault n p) f d d' m xs h o g = front-blamed f d d' o
+front_list (Ok c) (good vs) f d d' m xs h o g = let e : length vs ≡ c = omega arith in rw (← e) (g vs)
+front_list (Ok c) (fault n p) f d d' m xs h o g = absurd h
+front_list (Err e) (good vs) f d d' m xs h o g = absurd h
+front_list (Err e) (fault n p) f d d' m xs h o g = front-blamed f d d' o
 
 passed_none : {A : Type 0} (f : List ℕ → ℕ → Res (Got A)) (g : ℕ → List ℕ → ℕ → List Entry) (n k b : ℕ) → passed_many f g n k [] b ≡ []
 unfolding passed_many
@@ -149,7 +145,7 @@ module _ (s : List ℕ) where
   unfolding leaf_marks passed_leaf notes
   leaf_front l f k p e pe es d d' o = rw (leaf_agree s l p e pe es) (front-seen (read_leaf l (slice p e s) p) d d' _ _ _ (front-blamed f d d' o) λ c h. front-noted f k c.start (next c) 0 d d' o)
 
-  module _ {A : Type 0} (f : ℕ → Step) (m : ℕ → ℕ → List ℕ → List ℕ) (g : List ℕ → ℕ → Res (Got A)) (F : ℕ → List ℕ → ℕ → List Entry) (e : ℕ) (es : e ≤ length s)
+  module _ {A : Type 0} (f : ℕ → Answer ℕ) (m : ℕ → ℕ → List ℕ → List ℕ) (g : List ℕ → ℕ → Res (Got A)) (F : ℕ → List ℕ → ℕ → List Entry) (e : ℕ) (es : e ≤ length s)
       (like : (p : ℕ) → p ≤ e → f p ≡ step (g (slice p e s) p))
       (on : (p : ℕ) → p ≤ e → (v : Got A) → g (slice p e s) p ≡ good v → Onward s p e v.rest v.after)
       (mark : (j p : ℕ) → p ≤ e → (d d' : List ℕ) → Front d d' → Front (m j p d) (notes (F j (slice p e s) p) d')) where
@@ -157,10 +153,10 @@ module _ (s : List ℕ) where
         → Counts j (tally f n j p e) (many g n (slice p e s) p) × Front (many_marks f m n j p e d) (notes (passed_many g F n j (slice p e s) p) d')
     unfolding tally many_marks many passed_many notes pick bind
     many-front zero j p pe d d' o =
-        by_window s p e (λ u w. Counts j (pick u (Uncounted too_many_items p) (Items j)) (many g zero w p) × Front d (notes (passed_many g F zero j w p) d')) pe es (omega arith, o) (tt, o)
+        by_window s p e (λ u w. Counts j (pick u (refused TooManyItems p) (Ok j)) (many g zero w p) × Front d (notes (passed_many g F zero j w p) d')) pe es (omega arith, o) (tt, o)
     many-front (suc n) j p pe d d' o =
         by_window s p e
-        (λ u w. w ≡ slice p e s → Counts j (pick u (then_tally (f p) λ q. tally f n (suc j) q e) (Items j)) (many g (suc n) w p)
+        (λ u w. w ≡ slice p e s → Counts j (pick u (then_step (f p) λ q. tally f n (suc j) q e) (Ok j)) (many g (suc n) w p)
         × Front (pick u (after_step (f p) (m j p d) λ q. many_marks f m n (suc j) q e (m j p d)) d) (notes (passed_many g F (suc n) j w p) d'))
         pe es
         (λ w. (omega arith, o))
@@ -169,7 +165,7 @@ module _ (s : List ℕ) where
       where
         go : ((q : ℕ) → q ≤ e → (c c' : List ℕ) → Front c c' → Counts (suc j) (tally f n (suc j) q e) (many g n (slice q e s) q) × Front (many_marks f m n (suc j) q e c) (notes (passed_many g F n (suc j) (slice q e s) q) c'))
             → (r : Res (Got A)) → g (slice p e s) p ≡ r → Front (m j p d) (notes (F j (slice p e s) p) d')
-            → Counts j (then_tally (step r) λ q. tally f n (suc j) q e) (bind r λ a. bind (many g n a.rest a.after) λ xs. good (a.value ∷ xs))
+            → Counts j (then_step (step r) λ q. tally f n (suc j) q e) (bind r λ a. bind (many g n a.rest a.after) λ xs. good (a.value ∷ xs))
             × Front (after_step (step r) (m j p d) λ q. many_marks f m n (suc j) q e (m j p d)) (notes (of_read r λ a. passed_many g F n (suc j) a.rest a.after) (notes (F j (slice p e s) p) d'))
         go more (good a) q h =
             let i = on p pe a q in
@@ -196,7 +192,7 @@ module _ (s : List ℕ) where
         (λ q a. item_on s i q (next c) a b.2)
         (λ j q a y y' v. item_front i g j q (next c) a b.2 y y' v)
         n 0 c.start b.1 d d' o in
-        let y : Tally = tally (λ q. scan i s q (next c)) n 0 c.start (next c) in
+        let y : Answer ℕ = tally (λ q. scan i s q (next c)) n 0 c.start (next c) in
         let z : List ℕ = many_marks (λ q. scan i s q (next c)) (λ j q y. marks i g j s q (next c) y) n 0 c.start (next c) d in
         rw (enough-agree s k' c.start (next c) b.1 b.2, ← b.0, notes-append)
         (test (enough k' c.content)

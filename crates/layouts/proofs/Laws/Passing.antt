@@ -1,13 +1,13 @@
 -- What is passed of an item that is read is its fields, all of them: for every layout. Assumes nothing.
 use Rattle.std.specs.Prelude.{◌≡◌, refl, Bool, true, false, length, take, replicate}
 use Rattle.std.proofs.Common.{sym, ap, ◌∙◌, arith, length-set}
-use Prim.Native.Nat.{ℕ, suc, zero, ◌+◌, ◌≤◌, ◌<◌}
+use Prim.Native.Nat.{ℕ, suc, zero, ◌≤◌, ◌<◌}
 use Rattle.std.proofs.Math.Option.{none, some}
 use mathlib.Core.List.{List, [], ◌∷◌, ◌++◌, append-nil}
 use Rattle.std.proofs.lemmas.List.{length-replicate}
 use Rattle.std.proofs.Math.Seq.{take-length}
 use Rattle.terms.specs.declared.Field.{Field}
-use Rattle.terms.specs.Numbers.{left_over, no_item}
+use Rattle.terms.specs.declared.Reason.TheVariants.{LeftOver, NoItem}
 use Rattle.terms.specs.Answer.{Res, good, Got, got, pick, bind, enough}
 use Rattle.terms.specs.Laws.Answer.{clash, good_inj, by_bind, by_need, need_eq}
 use Rattle.heads.specs.Head.{Cut, tlv, before}
@@ -89,7 +89,7 @@ mutual
         ← good_inj e₅,
         e₁,
         e₄,
-        need_eq (enough e c.content) no_item b (good vs) y,
+        need_eq (enough e c.content) NoItem b (good vs) y,
         ← s.0,
         ← m,
         many-passes (λ x p. read i x p) (λ v. encode i v) (λ v. Ok i v) (λ j x p. passed i g j x p) (λ j v p. item_fields i g j v p) (λ z p q d. backward i z p q d)
@@ -99,7 +99,7 @@ mutual
       by_bind _ _ _ h λ c e₁ e₂. by_bind _ _ _ e₂ λ a e₃ e₄. by_bind _ _ _ e₄ λ z e₅ e₆.
       let m = (head_back t w b c e₁).1 in
       let s = backward i c.content c.start a e₃ in
-      let o = finish_back left_over a z e₅ in
+      let o = finish_back LeftOver a z e₅ in
       let y : c.content ≡ encode i a.value = s.0 ∙ ap (λ (z : List ℕ). encode i a.value ++ z) o.0 ∙ append-nil (encode i a.value) in
       rw (← good_inj e₆, ← o.1, e₁, ← y, ← m) (item_passes i f k c.content c.start a e₃)
 
@@ -133,7 +133,7 @@ accepted-passed most r s v h =
     by_bind _ _ _ h λ x e₁ e₂. by_bind _ _ _ e₁ λ c e₃ e₄. by_bind _ _ _ e₄ λ u e₅ e₆.
     let m = (head_back sequence s 0 c (outermost_back most sequence s 0 c e₃).0).1 in
     let n : before (length c.content) ≡ c.start = omega arith in
-    let q : u ≡ v = ap (λ (y : Got (Values r)). y.value) (good_inj e₆) ∙ (finish_back left_over x v e₂).1 in
+    let q : u ≡ v = ap (λ (y : Got (Values r)). y.value) (good_inj e₆) ∙ (finish_back LeftOver x v e₂).1 in
     rw (e₃, ← q, ← (backwards r c.content c.start u e₅).0, n) (all_passes r 0 c.content c.start u e₅)
 
 -- bytes after the first that no record has room for change nothing

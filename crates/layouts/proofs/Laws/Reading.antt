@@ -8,7 +8,8 @@ use Rattle.std.proofs.Math.Option.{Option, none, some}
 use mathlib.Core.List.{List, [], ◌∷◌, ◌++◌, append_assoc, append-nil}
 use Rattle.std.proofs.Math.ListN.{length, length-append}
 use Rattle.std.proofs.Math.Seq.{take-append_seam, drop-append_seam}
-use Rattle.terms.specs.Numbers.{left_over}
+use Rattle.terms.specs.declared.Reason.{Reason}
+use Rattle.terms.specs.declared.Reason.TheVariants.{LeftOver}
 use Rattle.terms.specs.Answer.{Res, good, Got, got, pick, bind, need, enough, same, finish}
 use Rattle.terms.specs.Laws.Answer.{never, clash, good_inj, test, and_l, and_r, is_true, is_false, pick_yes, pick_no, by_bind, by_need, same_eq, same_refl}
 use Rattle.heads.specs.Head.{forms, Cut, cut_off, tlv, octets, before}
@@ -123,7 +124,7 @@ pub leaf_next : (l : Leaf) (w : List ℕ) (b : ℕ) (v : Cut) → read_leaf l w 
 leaf_next l w b v e = ap (λ (m : ℕ). m + length v.content) (leaf_back l w b v e).2 ∙ leaf_ends l v.content b
 
 -- a value that has to be one known content
-only_back : (r : List ℕ → Check) (k : List ℕ) (n : ℕ) (c : List ℕ) → only_rule r k n c ≡ fine → c ≡ k
+only_back : (r : List ℕ → Check) (k : List ℕ) (n : Reason) (c : List ℕ) → only_rule r k n c ≡ fine → c ≡ k
 unfolding only_rule also
 only_back r k n c h = go (r c) h
   where
@@ -363,7 +364,7 @@ enough_back e true xs h = tt
 enough_back e false [] h = h
 enough_back e false (x ∷ xs) h = tt
 
-pub finish_back : {A : Type 0} (n : ℕ) (a : Got A) (v : A) → finish n a ≡ good v → (a.rest ≡ []) × (a.value ≡ v)
+pub finish_back : {A : Type 0} (n : Reason) (a : Got A) (v : A) → finish n a ≡ good v → (a.rest ≡ []) × (a.value ≡ v)
 unfolding finish
 finish_back n a v q = by_need _ _ _ _ _ q λ h e. (same_eq a.rest [] h, good_inj e)
 
@@ -390,13 +391,13 @@ mutual
       by_bind _ _ _ q λ c e₁ e₂. by_bind _ _ _ e₂ λ a e₃ e₄. by_bind _ _ _ e₄ λ z e₅ e₆.
       let u = head_back t w b c e₁ in
       let s = backward i c.content c.start a e₃ in
-      let f = finish_back left_over a z e₅ in
+      let f = finish_back LeftOver a z e₅ in
       let y : c.content ≡ encode i a.value = s.0 ∙ ap (λ (z : List ℕ). encode i a.value ++ z) f.0 ∙ append-nil (encode i a.value) in
       let n = length-tlv t c.content in
       rw (← good_inj e₆, ← f.1, ← y) (u.0, s.1, omega arith)
 
   pub backwards : (r : Members) (w : List ℕ) (b : ℕ) (v : Values r) → reads r w b ≡ good v → (w ≡ encodes r v) × Oks r v
-  backwards end w b v q = ((finish_back left_over (got tt w b) v q).0, tt)
+  backwards end w b v q = ((finish_back LeftOver (got tt w b) v q).0, tt)
   backwards (m ▸ r) w b v q =
       by_bind _ _ _ q λ a e₁ e₂. by_bind _ _ _ e₂ λ x e₃ e₄.
       let u = backward_part m w b a e₁ in

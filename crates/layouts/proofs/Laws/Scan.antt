@@ -1,5 +1,5 @@
 -- Reading by positions is reading the window: `scan` agrees with `read`, for every layout. Assumes nothing.
-use Rattle.std.specs.Prelude.{◌≡◌, ◌⊎◌, Bool, ◌&&◌, ◌||◌, take, drop, ltb}
+use Rattle.std.specs.Prelude.{◌≡◌, ◌⊎◌, Bool, ◌&&◌, ◌||◌, take, drop, ltb, Ok, Err}
 use Rattle.std.proofs.Math.Path.{refl}
 use Rattle.std.proofs.Common.{sym, ap, ◌∙◌, inl, inr, add-zero, length-append, length-take, drop-drop, take-add, drop_at, take_at, take-take, lt-ltb, le-ltb}
 use Prim.Native.Nat.{ℕ, suc, zero, ◌+◌, ◌-◌, ◌≤◌, ◌<◌}
@@ -9,16 +9,14 @@ use mathlib.Core.List.{List, [], ◌∷◌, ◌++◌, append_assoc}
 use Rattle.std.proofs.Math.ListN.{length, get_or}
 use Rattle.std.proofs.Math.Seq.{take-length, slice, slice_empty, slice-cons, length-slice, length-take-le}
 use Rattle.std.proofs.Math.Dec.{eqb, ltb→lt, nltb→le}
-use Rattle.terms.specs.Numbers.{left_over, bad_bits, no_item, too_many_items}
-use Rattle.terms.specs.Answer.{Res, good, fault, Got, got, pick, bind, need, enough, same, finish}
+use Rattle.terms.specs.declared.Reason.{Reason}
+use Rattle.terms.specs.declared.Reason.TheVariants.{LeftOver, BadBits, NoItem, TooManyItems}
+use Rattle.terms.specs.Answer.{Res, good, fault, Got, got, pick, bind, need, enough, same, finish, Answer, refused}
 use Rattle.terms.specs.Laws.Answer.{good_inj, test, is_true, is_false, by_bind, need_eq}
 use Rattle.heads.specs.Head.{forms, Cut, cut_off, head, outermost, tlv, octets}
 use Rattle.heads.specs.Scan.{seen, past_of, head_at, outermost_at, begins_at, close_at}
 use Rattle.heads.proofs.Laws.Head.{head_back, outermost_back}
-use Rattle.heads.specs.declared.Seen.{Seen}
-use Rattle.heads.specs.declared.Seen.TheVariants.{Item as At, Refused as Bad}
-use Rattle.heads.specs.declared.Step.{Step}
-use Rattle.heads.specs.declared.Step.TheVariants.{Next, Refused}
+use Rattle.heads.specs.declared.Span.{Span}
 use Rattle.contents.specs.Content.{Check, fine, wrong, judge}
 use Rattle.contents.specs.Leaves.{Leaf, rule_of, boolean, only}
 use Rattle.contents.specs.Scan.{checked, checked_at, behind_at, content_at}
@@ -26,7 +24,7 @@ use Rattle.contents.proofs.Laws.Leaves.{by_judge}
 use Rattle.layouts.specs.Layout.{Item, leaf, node, list, wrap, Members, end, ◌▸◌, Member, known, one, maybe, flag, choose, tag_of, Value, Values, Part, encode, encode_part}
 use Rattle.layouts.specs.Whole.{sequence, record_at, accept}
 use Rattle.layouts.specs.Reading.{next, behind, read_leaf, begins, many, read_option, read_flag, read_either, read, reads, read_part}
-use Rattle.layouts.specs.Scan.{then_seen, then_step, judged_at, then_judge, leaf_at, scan_many, scan, scans, scan_part, record_scan, whole_scan}
+use Rattle.layouts.specs.Scan.{then_seen, then_step, judged_at, leaf_at, scan_many, scan, scans, scan_part, record_scan, whole_scan}
 use Rattle.layouts.proofs.Laws.Reading.{behind_back, backward, backward_part}
 
 -- ---- windows of a slice
@@ -56,37 +54,37 @@ onward p e s a r n h k q m =
 
 -- ---- a reading as a caller sees it
 
-abbrev pub out : {A : Type 0} → (A → ℕ) → Res A → Step
-out f (good a) = Next (f a)
-out f (fault n q) = Refused n q
+abbrev pub out : {A : Type 0} → (A → ℕ) → Res A → Answer ℕ
+out f (good a) = Ok (f a)
+out f (fault n q) = refused n q
 
-abbrev pub step : {A : Type 0} → Res (Got A) → Step
+abbrev pub step : {A : Type 0} → Res (Got A) → Answer ℕ
 step r = out (λ x. x.after) r
 
-abbrev pub whole : {A : Type 0} → ℕ → Res A → Step
+abbrev pub whole : {A : Type 0} → ℕ → Res A → Answer ℕ
 whole e r = out (λ x. e) r
 
 -- where what follows an item starts
-pub passed : (x : Seen) → past_of x ≡ then_seen x (λ a z. Next z)
-passed (At a z) = refl
-passed (Bad n p) = refl
+pub passed : (x : Answer Span) → past_of x ≡ then_seen x (λ a z. Ok z)
+passed (Ok i) = refl
+passed (Err e) = refl
 
-pub seen-bind : {A : Type 0} (g : A → ℕ) (h : Res Cut) (k : ℕ → ℕ → Step) (K : Cut → Res A) → ((c : Cut) → h ≡ good c → k c.start (next c) ≡ out g (K c)) → then_seen (seen h) k ≡ out g (bind h K)
+pub seen-bind : {A : Type 0} (g : A → ℕ) (h : Res Cut) (k : ℕ → ℕ → Answer ℕ) (K : Cut → Res A) → ((c : Cut) → h ≡ good c → k c.start (next c) ≡ out g (K c)) → then_seen (seen h) k ≡ out g (bind h K)
 unfolding bind
 seen-bind g (good c) k K f = f c refl
 seen-bind g (fault n q) k K f = refl
 
-pub out-bind : {A B : Type 0} (f : A → ℕ) (g : B → ℕ) (r : Res A) (k : ℕ → Step) (K : A → Res B) → ((a : A) → r ≡ good a → k (f a) ≡ out g (K a)) → then_step (out f r) k ≡ out g (bind r K)
+pub out-bind : {A B : Type 0} (f : A → ℕ) (g : B → ℕ) (r : Res A) (k : ℕ → Answer ℕ) (K : A → Res B) → ((a : A) → r ≡ good a → k (f a) ≡ out g (K a)) → then_step (out f r) k ≡ out g (bind r K)
 unfolding bind
 out-bind f g (good a) k K h = h a refl
 out-bind f g (fault n q) k K h = refl
 
 pub out-map : {A B : Type 0} (f : A → ℕ) (g : B → ℕ) (r : Res A) (k : A → B) → ((a : A) → f a ≡ g (k a)) → out f r ≡ out g (bind r λ a. good (k a))
 unfolding bind
-out-map f g (good a) k h = ap Next (h a)
+out-map f g (good a) k h = ap Ok (h a)
 out-map f g (fault n q) k h = refl
 
-judge-bind : (h : Res Cut) (k : ℕ → ℕ → Seen) (K : Cut → Res Cut) → ((c : Cut) → h ≡ good c → k c.start (next c) ≡ seen (K c)) → then_judge (seen h) k ≡ seen (bind h K)
+judge-bind : (h : Res Cut) (k : ℕ → ℕ → Answer Span) (K : Cut → Res Cut) → ((c : Cut) → h ≡ good c → k c.start (next c) ≡ seen (K c)) → then_seen (seen h) k ≡ seen (bind h K)
 unfolding bind
 judge-bind (good c) k K f = f c refl
 judge-bind (fault n q) k K f = refl
@@ -96,12 +94,12 @@ unfolding judge judged_at
 seen-judge fine p c = refl
 seen-judge (wrong n x) p c = refl
 
-pub out-need : {A : Type 0} (g : A → ℕ) (t : Bool) (n p : ℕ) (x : Step) (y : Res A) → x ≡ out g y → pick t x (Refused n p) ≡ out g (need t n p y)
+pub out-need : {A : Type 0} (g : A → ℕ) (t : Bool) (n : Reason) (p : ℕ) (x : Answer ℕ) (y : Res A) → x ≡ out g y → pick t x (refused n p) ≡ out g (need t n p y)
 unfolding need pick
 out-need g true n p x y h = h
 out-need g false n p x y h = refl
 
-pub out-pick : {A : Type 0} (g : A → ℕ) (t : Bool) (x x' : Step) (y y' : Res A) → x ≡ out g y → x' ≡ out g y' → pick t x x' ≡ out g (pick t y y')
+pub out-pick : {A : Type 0} (g : A → ℕ) (t : Bool) (x x' : Answer ℕ) (y y' : Res A) → x ≡ out g y → x' ≡ out g y' → pick t x x' ≡ out g (pick t y y')
 unfolding pick
 out-pick g true x x' y y' h h' = h
 out-pick g false x x' y y' h h' = h'
@@ -173,7 +171,7 @@ module _ (s : List ℕ) where
       let v : Cut = cut_off (drop (length f) c.content) c.rest (c.start + length f) in
       rw (content_by f rule p c.start (next c), ← b.0)
       (test (same (take (length f) c.content) f)
-      (λ t. let (q, m) = behind-parts f p e p c v (need_eq (same (take (length f) c.content) f) bad_bits p (good v) t) b in
+      (λ t. let (q, m) = behind-parts f p e p c v (need_eq (same (take (length f) c.content) f) BadBits p (good v) t) b in
       let d : v.content ≡ slice v.start (next c) s = rw m at q.0 in
       rw (is_true (same (take (length f) c.content) f) t, ← d) (rw m at (seen-judge (rule v.content) p v)))
       (λ t. rw (is_false (same (take (length f) c.content) f) t)))
@@ -186,20 +184,20 @@ module _ (s : List ℕ) where
   unfolding begins_at begins
   begins-agree t p e pe es = by_window p e (λ u w. u && eqb (get_or s p 0) t ≡ begins t w) pe es refl refl
 
-  pub close_agree : {A : Type 0} (a : Got A) (e : ℕ) → a.rest ≡ slice a.after e s → a.after ≤ e → e ≤ length s → close_at a.after e ≡ whole e (finish left_over a)
+  pub close_agree : {A : Type 0} (a : Got A) (e : ℕ) → a.rest ≡ slice a.after e s → a.after ≤ e → e ≤ length s → close_at a.after e ≡ whole e (finish LeftOver a)
   unfolding close_at finish same need pick
-  close_agree a e q ae es = rw q (by_window a.after e (λ u w. pick u (Refused left_over a.after) (Next e) ≡ whole e (finish left_over (got a.value w a.after))) ae es refl refl)
+  close_agree a e q ae es = rw q (by_window a.after e (λ u w. pick u (refused LeftOver a.after) (Ok e) ≡ whole e (finish LeftOver (got a.value w a.after))) ae es refl refl)
 
   pub enough-agree : (k : Bool) (p e : ℕ) → p ≤ e → e ≤ length s → k || ltb p e ≡ enough k (slice p e s)
   unfolding enough
   enough-agree true p e pe es = refl
   enough-agree false p e pe es = by_window p e (λ u w. u ≡ enough false w) pe es refl refl
 
-  many-agree : {A : Type 0} (f : ℕ → Step) (g : List ℕ → ℕ → Res (Got A)) (e : ℕ) → e ≤ length s → ((p : ℕ) → p ≤ e → f p ≡ step (g (slice p e s) p))
+  many-agree : {A : Type 0} (f : ℕ → Answer ℕ) (g : List ℕ → ℕ → Res (Got A)) (e : ℕ) → e ≤ length s → ((p : ℕ) → p ≤ e → f p ≡ step (g (slice p e s) p))
       → ((p : ℕ) → p ≤ e → (x : Got A) → g (slice p e s) p ≡ good x → Onward s p e x.rest x.after)
       → (n p : ℕ) → p ≤ e → scan_many f n p e ≡ whole e (many g n (slice p e s) p)
   unfolding scan_many many pick
-  many-agree f g e es like on zero p pe = by_window p e (λ u w. pick u (Refused too_many_items p) (Next e) ≡ whole e (many g zero w p)) pe es refl refl
+  many-agree f g e es like on zero p pe = by_window p e (λ u w. pick u (refused TooManyItems p) (Ok e) ≡ whole e (many g zero w p)) pe es refl refl
   many-agree f g e es like on (suc n) p pe =
       test (ltb p e)
       (λ h. let h' : p < e = ltb→lt p e h in
@@ -236,7 +234,7 @@ module _ (s : List ℕ) where
         let d' : next c ≤ length s = omega arith in
         let m = many-agree (λ q. scan i s q (next c)) (λ x q. read i x q) (next c) d' (λ q g. scan-read i q (next c) g d') (λ q g. item_on i q (next c) g d') n c.start d in
         rw (enough-agree k c.start (next c) d d', m, ← b.0)
-        (out-need (λ x. x.after) (enough k c.content) no_item p _ _ (out-map (λ x. next c) (λ x. x.after) _ _ λ v. refl))
+        (out-need (λ x. x.after) (enough k c.content) NoItem p _ _ (out-map (λ x. next c) (λ x. x.after) _ _ λ v. refl))
     scan-read (wrap t i) p e pe es =
         seen-bind (λ x. x.after) _ _ _ λ c h.
         let b = head-parts t p e pe es c h in

@@ -1,5 +1,5 @@
 -- Reading a sheet by positions is reading the window: `sheet_scan` agrees with `fill`, for every layout. Assumes nothing.
-use Rattle.std.specs.Prelude.{◌≡◌, Bool, ◌||◌, take, replicate, ℤ, leb, eqb}
+use Rattle.std.specs.Prelude.{◌≡◌, Bool, ◌||◌, take, replicate, ℤ, leb, eqb, Ok, Err}
 use Rattle.std.proofs.Math.Path.{refl, sym, ap}
 use Rattle.std.proofs.Common.{◌∙◌, arith, drop_at}
 use Prim.Native.Nat.{ℕ, suc, zero, ◌+◌, ◌-◌}
@@ -10,13 +10,11 @@ use Rattle.std.proofs.Math.ListN.{length, drop, length-append, length-drop}
 use Rattle.std.proofs.lemmas.List.{length-replicate}
 use Rattle.std.proofs.Math.Seq.{slice, take-length, drop-drop}
 use Rattle.std.proofs.Math.Dec.{eqb→eq}
-use Rattle.terms.specs.Numbers.{no_item, too_many_items, bad_sheet, bad_integer, not_allowed}
-use Rattle.terms.specs.Answer.{Res, good, fault, Got, got, pick, bind, need, have, same, finish}
-use Rattle.terms.specs.Laws.Answer.{test, is_true, is_false}
+use Rattle.terms.specs.declared.Reason.TheVariants.{NoItem, TooManyItems, BadSheet, BadInteger, NotAllowed}
+use Rattle.terms.specs.Answer.{Res, good, fault, Got, got, pick, bind, need, have, same, finish, Answer, refused}
+use Rattle.terms.specs.Laws.Answer.{same_refusal, test, is_true, is_false}
 use Rattle.heads.specs.Head.{Cut}
 use Rattle.heads.specs.Scan.{seen}
-use Rattle.heads.specs.declared.Step.{Step}
-use Rattle.heads.specs.declared.Step.TheVariants.{Next, Refused}
 use Rattle.contents.specs.Content.{Check, fine, wrong, ask, judge, place_of}
 use Rattle.contents.specs.Integer.{section_bytes, well_formed, value, sign_of, shrink, unstretch}
 use Rattle.contents.specs.Rules.{integer_rule}
@@ -27,10 +25,8 @@ use Rattle.layouts.specs.Layout.{Item, leaf, node, list, wrap, Members, end, ◌
 use Rattle.layouts.specs.Reading.{next, read_either}
 use Rattle.layouts.specs.Sheet.{count_bytes, count, section, sheet, sheets, sheet_part, read_count, read_section, fill_leaf, times, critical_in, fill_flag, fill_option, fill_list, fill, fills, fill_part}
 use Rattle.layouts.specs.Whole.{accept_sheet}
-use Rattle.layouts.specs.Scan.{then_seen, then_judge, judged_at}
-use Rattle.layouts.specs.SheetScan.{counted, count_at, then_count, within_of, list_count_at, section_at, value_at, leaf_section_at, flag_section_at, times_scan, sheet_scan, sheet_scans, sheet_scan_part, whole_sheet_scan}
-use Rattle.layouts.specs.declared.Tally.{Tally}
-use Rattle.layouts.specs.declared.Tally.TheVariants.{Items, Refused as Uncounted}
+use Rattle.layouts.specs.Scan.{then_seen, then_step, judged_at}
+use Rattle.layouts.specs.SheetScan.{counted, count_at, within_of, list_count_at, section_at, value_at, leaf_section_at, flag_section_at, times_scan, sheet_scan, sheet_scans, sheet_scan_part, whole_sheet_scan}
 use Rattle.layouts.proofs.Laws.Sheet.{count_back, length-count, length-section, section_back, unfilled, unfilleds, unfilled_part}
 use Rattle.layouts.proofs.Laws.Scan.{rest_slice, front-slice, onward, by_window, out, step, whole, seen-bind, out-bind, out-map, out-need, out-pick, choose_read}
 
@@ -47,38 +43,38 @@ integer_place : (allowed : ℤ → Bool) (v : List ℕ) (p a b : ℕ) → checke
 unfolding integer_rule ask place_of
 integer_place allowed v p a b = go (well_formed v) (allowed (value v))
   where
-    go : (x y : Bool) → checked (ask x bad_integer (ask y not_allowed fine)) p a ≡ checked (ask x bad_integer (ask y not_allowed fine)) p b
+    go : (x y : Bool) → checked (ask x BadInteger (ask y NotAllowed fine)) p a ≡ checked (ask x BadInteger (ask y NotAllowed fine)) p b
     go true true = refl
     go true false = refl
     go false y = refl
 
 -- a value by its rule, then what follows
-judged-bind : {A B : Type 0} (g : B → ℕ) (x : Check) (p a b z : ℕ) (k : ℕ → ℕ → Step) (y : A) (K : A → Res B) → checked x p b ≡ checked x p a → k b z ≡ out g (K y)
+judged-bind : {A B : Type 0} (g : B → ℕ) (x : Check) (p a b z : ℕ) (k : ℕ → ℕ → Answer ℕ) (y : A) (K : A → Res B) → checked x p b ≡ checked x p a → k b z ≡ out g (K y)
     → then_seen (judged_at (checked x p b) b z) k ≡ out g (bind (judge x p a (good y)) K)
 unfolding judged_at judge bind
 judged-bind g fine p a b z k y K e h = h
-judged-bind g (wrong n x) p a b z k y K e h = let q : place_of x p b ≡ place_of x p a = cc in rw q
+judged-bind g (wrong n x) p a b z k y K e h = let q : place_of x p b ≡ place_of x p a = ap (λ r. r.place) (same_refusal e) in rw q
 
 -- a list's count within its bounds, then what follows
-within : (c : Tally) (k : Bool) (n p : ℕ) (f : ℕ → Step) → then_count (within_of k n p c) f ≡ (then_count c λ c. pick (k || leb 1 c) (pick (leb c n) (f c) (Refused too_many_items p)) (Refused no_item p))
+within : (c : Answer ℕ) (k : Bool) (n p : ℕ) (f : ℕ → Answer ℕ) → then_step (within_of k n p c) f ≡ (then_step c λ c. pick (k || leb 1 c) (pick (leb c n) (f c) (refused TooManyItems p)) (refused NoItem p))
 unfolding pick
-within (Items c) k n p f = go (k || leb 1 c) (leb c n)
+within (Ok c) k n p f = go (k || leb 1 c) (leb c n)
   where
-    go : (x y : Bool) → then_count (pick x (pick y (Items c) (Uncounted too_many_items p)) (Uncounted no_item p)) f ≡ pick x (pick y (f c) (Refused too_many_items p)) (Refused no_item p)
+    go : (x y : Bool) → then_step (pick x (pick y (Ok c) (refused TooManyItems p)) (refused NoItem p)) f ≡ pick x (pick y (f c) (refused TooManyItems p)) (refused NoItem p)
     go true true = refl
     go true false = refl
     go false y = refl
-within (Uncounted m q) k n p f = refl
+within (Err e) k n p f = refl
 
 module _ (s : List ℕ) where
   -- ---- counts and sections
 
-  count-bind : {A : Type 0} (g : A → ℕ) (p e : ℕ) (k : ℕ → Step) (K : ℕ × List ℕ → Res A) → ((n : ℕ) → k n ≡ out g (K (n, slice (p + count_bytes) e s)))
-      → then_count (count_at s p e) k ≡ out g (bind (read_count (slice p e s) p) K)
+  count-bind : {A : Type 0} (g : A → ℕ) (p e : ℕ) (k : ℕ → Answer ℕ) (K : ℕ × List ℕ → Res A) → ((n : ℕ) → k n ≡ out g (K (n, slice (p + count_bytes) e s)))
+      → then_step (count_at s p e) k ≡ out g (bind (read_count (slice p e s) p) K)
   unfolding count_at bind
   count-bind g p e k K f = go (read_count (slice p e s) p) refl
     where
-      go : (r : Res (ℕ × List ℕ)) → read_count (slice p e s) p ≡ r → then_count (counted r) k ≡ out g (bind r K)
+      go : (r : Res (ℕ × List ℕ)) → read_count (slice p e s) p ≡ r → then_step (counted r) k ≡ out g (bind r K)
       go (good n) h =
           let q : n.1 ≡ slice (p + count_bytes) e s = rest_slice p e s (count n.0) n.1 (count_back (slice p e s) p n h) ∙ ap (λ (m : ℕ). slice (p + m) e s) (length-count n.0) in
           f n.0 ∙ ap (λ (w : List ℕ). out g (K (n.0, w))) (sym q)
@@ -99,10 +95,10 @@ module _ (s : List ℕ) where
       (front-slice c.start e s c.content c.rest (sym w) (omega arith), rest_slice p e s (section c.content) c.rest b.0 ∙ ap (λ (k : ℕ). slice k e s) (sym b.1))
 
   -- a section's value, then its rule, then what follows, by where the value lies
-  value-bind : {A : Type 0} (g : A → ℕ) (h : Holding) (p e : ℕ) (c : Cut) (k : ℕ → ℕ → Step) (K : Got (List ℕ) → Res A) → c.content ≡ slice c.start (next c) s
+  value-bind : {A : Type 0} (g : A → ℕ) (h : Holding) (p e : ℕ) (c : Cut) (k : ℕ → ℕ → Answer ℕ) (K : Got (List ℕ) → Res A) → c.content ≡ slice c.start (next c) s
       → ((v : List ℕ) (a z : ℕ) → v ≡ slice a z s → z ≡ next c → k a z ≡ out g (K (got v c.rest z)))
-      → (then_seen (then_judge (value_at h s p c.start (next c)) λ b y. judged_at (checked_at (rule_of h) s p b y) b y) k)
-      ≡ out g (bind (bind (have (value_in h c.content) bad_sheet p) λ v. judge (rule_of h v) p c.start (good (got v c.rest (next c)))) K)
+      → (then_seen (then_seen (value_at h s p c.start (next c)) λ b y. judged_at (checked_at (rule_of h) s p b y) b y) k)
+      ≡ out g (bind (bind (have (value_in h c.content) BadSheet p) λ v. judge (rule_of h v) p c.start (good (got v c.rest (next c)))) K)
   unfolding checked_at have bind unstretch pick
   value-bind g (bytes rule) p e c k K i f =
       rw (← i) (judged-bind g (rule c.content) p c.start c.start (next c) k (got c.content c.rest (next c)) K refl (f c.content c.start (next c) i refl))
@@ -119,23 +115,23 @@ module _ (s : List ℕ) where
       (λ h. rw (← i, is_false (eqb (length c.content) section_bytes) h))
 
   -- what follows a primitive item's section
-  leaf_bind : {A : Type 0} (g : A → ℕ) (l : Leaf) (p e : ℕ) (k : ℕ → ℕ → Step) (K : Got (List ℕ) → Res A)
+  leaf_bind : {A : Type 0} (g : A → ℕ) (l : Leaf) (p e : ℕ) (k : ℕ → ℕ → Answer ℕ) (K : Got (List ℕ) → Res A)
       → ((v : List ℕ) (a z : ℕ) → v ≡ slice a z s → k a z ≡ out g (K (got v (slice z e s) z)))
       → then_seen (leaf_section_at l s p e) k ≡ out g (bind (fill_leaf l (slice p e s) p) K)
   unfolding leaf_section_at section_at fill_leaf bind
   leaf_bind g l p e k K f = go (read_section (slice p e s) p) refl
     where
       go : (r : Res Cut) → read_section (slice p e s) p ≡ r
-          → (then_seen (then_judge (seen r) λ a z. then_judge (value_at l.holds s p a z) λ b y. judged_at (checked_at (rule_of l.holds) s p b y) b y) k)
-          ≡ out g (bind (bind r λ c. bind (have (value_in l.holds c.content) bad_sheet p) λ v. judge (rule_of l.holds v) p c.start (good (got v c.rest (next c)))) K)
+          → (then_seen (then_seen (seen r) λ a z. then_seen (value_at l.holds s p a z) λ b y. judged_at (checked_at (rule_of l.holds) s p b y) b y) k)
+          ≡ out g (bind (bind r λ c. bind (have (value_in l.holds c.content) BadSheet p) λ v. judge (rule_of l.holds v) p c.start (good (got v c.rest (next c)))) K)
       go (good c) h =
           let b = section-parts p e c h in
           value-bind g l.holds p e c k K b.0 λ v a z q y. f v a z q ∙ ap (λ (w : List ℕ). out g (K (got v w z))) (rw y (sym b.1))
       go (fault n q) h = refl
 
-  leaf_filled : (l : Leaf) (p e : ℕ) → (then_seen (leaf_section_at l s p e) λ a z. Next z) ≡ step (fill_leaf l (slice p e s) p)
+  leaf_filled : (l : Leaf) (p e : ℕ) → (then_seen (leaf_section_at l s p e) λ a z. Ok z) ≡ step (fill_leaf l (slice p e s) p)
   unfolding bind
-  leaf_filled l p e = leaf_bind (λ x. x.after) l p e (λ a z. Next z) good (λ v a z q. refl) ∙ whole-bind (fill_leaf l (slice p e s) p)
+  leaf_filled l p e = leaf_bind (λ x. x.after) l p e (λ a z. Ok z) good (λ v a z q. refl) ∙ whole-bind (fill_leaf l (slice p e s) p)
     where
       whole-bind : (r : Res (Got (List ℕ))) → step (bind r good) ≡ step r
       whole-bind (good a) = refl
@@ -147,7 +143,7 @@ module _ (s : List ℕ) where
       seen-bind {A = Got Bool} (λ x. x.after) _ _ _ λ c h.
       rw (← (section-parts p e c h).0) (go c (same c.content (0 ∷ [])) (same c.content (1 ∷ [])))
     where
-      go : (c : Cut) (a b : Bool) → pick (a || b) (Next (next c)) (Refused bad_sheet p) ≡ step {A = Bool} (bind (have (pick a (some false) (pick b (some true) none)) bad_sheet p) λ v. good (got v c.rest (next c)))
+      go : (c : Cut) (a b : Bool) → pick (a || b) (Ok (next c)) (refused BadSheet p) ≡ step {A = Bool} (bind (have (pick a (some false) (pick b (some true) none)) BadSheet p) λ v. good (got v c.rest (next c)))
       go c true b = refl
       go c false true = refl
       go c false false = refl
@@ -160,7 +156,7 @@ module _ (s : List ℕ) where
   part_rest : (m : Member) (p e : ℕ) (x : Got (Part m)) → fill_part m (slice p e s) p ≡ good x → x.rest ≡ slice x.after e s
   part_rest m p e x h = let w = unfilled_part m (slice p e s) p x h in rest_slice p e s (sheet_part m x.value) x.rest w.0 ∙ ap (λ (n : ℕ). slice n e s) (sym w.2)
 
-  times-agree : {A : Type 0} (f : ℕ → Step) (g : List ℕ → ℕ → Res (Got A)) (e : ℕ) → ((p : ℕ) → f p ≡ step (g (slice p e s) p)) → ((p : ℕ) (x : Got A) → g (slice p e s) p ≡ good x → x.rest ≡ slice x.after e s)
+  times-agree : {A : Type 0} (f : ℕ → Answer ℕ) (g : List ℕ → ℕ → Res (Got A)) (e : ℕ) → ((p : ℕ) → f p ≡ step (g (slice p e s) p)) → ((p : ℕ) (x : Got A) → g (slice p e s) p ≡ good x → x.rest ≡ slice x.after e s)
       → (n p : ℕ) → times_scan f n p ≡ step (times g n (slice p e s) p)
   unfolding times_scan times
   times-agree f g e like on zero p = refl
@@ -180,8 +176,8 @@ module _ (s : List ℕ) where
     sheet-fill (list t k n f i) p e =
         within (count_at s p e) k n p (λ c. times_scan (λ q. sheet_scan i s q e) c (p + count_bytes))
         ∙ count-bind (λ x. x.after) p e _ _ λ c.
-        out-need (λ x. x.after) (k || leb 1 c) no_item p _ _
-        (out-need (λ x. x.after) (leb c n) too_many_items p _ _
+        out-need (λ x. x.after) (k || leb 1 c) NoItem p _ _
+        (out-need (λ x. x.after) (leb c n) TooManyItems p _ _
         (times-agree (λ q. sheet_scan i s q e) (λ x q. fill i x q) e (λ q. sheet-fill i q e) (λ q. item_rest i q e) c (p + count_bytes)))
     sheet-fill (wrap t i) p e = sheet-fill i p e
 
@@ -198,7 +194,7 @@ module _ (s : List ℕ) where
     sheet_part-fill (maybe f i) p e =
         count-bind (λ x. x.after) p e _ _ λ c.
         out-pick (λ x. x.after) (eqb c 0) _ _ _ _ refl
-        (out-need (λ x. x.after) (eqb c 1) bad_sheet p _ _ (sheet-fill i (p + count_bytes) e ∙ out-map (λ x. x.after) (λ x. x.after) _ _ λ a. refl))
+        (out-need (λ x. x.after) (eqb c 1) BadSheet p _ _ (sheet-fill i (p + count_bytes) e ∙ out-map (λ x. x.after) (λ x. x.after) _ _ λ a. refl))
     sheet_part-fill (flag f) p e = flag_filled p e
     sheet_part-fill (choose f l t g i j) p e =
         leaf_bind (λ x. x.after) l p e _ _ λ v a z q.
@@ -214,4 +210,4 @@ sheet-accept r s =
     let b = unfilleds r s 0 a h in
     let o = onward 0 (length s) s (sheets r a.value) a.rest a.after (omega arith) (omega arith) (w ∙ b.0) b.2 in
     rw o.0
-    (by_window s a.after (length s) (λ u w. pick u (Refused bad_sheet a.after) (Next (length s)) ≡ whole (length s) (need (same w []) bad_sheet a.after (good a.value))) o.2 (omega arith) refl refl))
+    (by_window s a.after (length s) (λ u w. pick u (refused BadSheet a.after) (Ok (length s)) ≡ whole (length s) (need (same w []) BadSheet a.after (good a.value))) o.2 (omega arith) refl refl))

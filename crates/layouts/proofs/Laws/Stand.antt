@@ -6,7 +6,7 @@ use Prim.Native.Nat.{ℕ, suc, zero, ◌+◌}
 use Rattle.std.proofs.Math.Bool.{true, false}
 use mathlib.Core.List.{List, [], ◌∷◌, ◌++◌, append-nil}
 use Rattle.terms.specs.declared.Field.{Field}
-use Rattle.terms.specs.Numbers.{no_item}
+use Rattle.terms.specs.declared.Reason.TheVariants.{NoItem}
 use Rattle.terms.specs.Answer.{Res, good, fault, Got, pick, need, enough}
 use Rattle.heads.specs.Head.{forms, Cut, head, outermost, tlv, octets, before}
 use Rattle.heads.proofs.Laws.Head.{head_back, outermost_back}
@@ -84,7 +84,7 @@ module _ (s : List ℕ) where
         let u = opened t w b o c h in
         all_append (Stands s) (passed_many (λ x p. read i x p) (λ j x p. passed i g j x p) n 0 c.content c.start) _
         (of_many (λ x p. read i x p) (λ v. encode i v) (λ v. Ok i v) (λ j x p. passed i g j x p) (λ y p x q. backward i y p x q) (λ j x p q. of_item i g j x p q) n 0 c.content c.start u.1)
-        (of-read (need (enough e c.content) no_item b (many (λ x p. read i x p) n c.content c.start)) (λ vs. list_entry f k b (tlv t c.content) (length vs) ∷ []) λ vs m. (u.0, tt))
+        (of-read (need (enough e c.content) NoItem b (many (λ x p. read i x p) n c.content c.start)) (λ vs. list_entry f k b (tlv t c.content) (length vs) ∷ []) λ vs m. (u.0, tt))
     of_item (wrap t i) f k w b o = of-read (head forms t w b) _ λ c h. of_item i f k c.content c.start (opened t w b o c h).1
 
     of_all : (r : Members) (k : ℕ) (w : List ℕ) (b : ℕ) → At w b → All (Stands s) (passed_all r k w b)

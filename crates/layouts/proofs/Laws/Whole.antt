@@ -6,7 +6,9 @@ use native.Mathlib.Omega.{arith}
 use mathlib.Core.List.{List, [], ◌∷◌, ◌++◌, append-nil}
 use lib.ListN.{length, take, drop, length-append}
 use Rattle.std.proofs.lemmas.Bool.{lt-leb}
-use Rattle.terms.specs.Numbers.{done, left_over, bad_sheet, no_room}
+use Rattle.terms.specs.declared.Reason.{Reason}
+use Rattle.terms.specs.Numbers.{done}
+use Rattle.terms.specs.declared.Reason.TheVariants.{LeftOver, BadSheet, NoRoom}
 use Rattle.terms.specs.Answer.{Res, good, fault, Got, got, bind, need, same, finish, Told, told_one, refusal, answered}
 use Rattle.terms.specs.Laws.Answer.{good_inj, and_r, by_bind, need_eq}
 use Rattle.heads.specs.Head.{forms, Cut, tlv, before, outermost}
@@ -20,7 +22,7 @@ use Rattle.layouts.proofs.Laws.Reading.{clear, clears, spare, forwards, backward
 use Rattle.layouts.proofs.Laws.Sheet.{uncounted, filleds, unfilleds, short}
 
 -- where a byte is left, more are left
-some_left : {A : Type 0} (n : ℕ) (v : A) (w z : List ℕ) (p : ℕ) → 1 ≤ length w → finish n (got v (w ++ z) p) ≡ finish n (got v w p)
+some_left : {A : Type 0} (n : Reason) (v : A) (w z : List ℕ) (p : ℕ) → 1 ≤ length w → finish n (got v (w ++ z) p) ≡ finish n (got v w p)
 unfolding finish same
 some_left n v [] z p h = absurd (omega arith)
 some_left n v (x ∷ w) z p h = refl
@@ -55,7 +57,7 @@ module _ (most : ℕ) (r : Members) where
   accept_back w v e =
       by_bind _ _ _ e λ a e₁ e₂.
       let b = record_at_back w 0 a e₁ in
-      let f = finish_back left_over a v e₂ in
+      let f = finish_back LeftOver a v e₂ in
       let q : w ≡ record_of r a.value = b.0 ∙ ap (λ (z : List ℕ). record_of r a.value ++ z) f.0 ∙ append-nil (record_of r a.value) in
       rw (← f.1) (q, b.1, rw q b.3)
 
@@ -69,20 +71,20 @@ module _ (most : ℕ) (r : Members) where
   unfolding accept record_at bind
   accept-more w z m h = rw (outermost-more most sequence w z 0 m h) (go (outermost forms most sequence w 0) refl)
     where
-      left : (c : Cut) → outermost forms most sequence w 0 ≡ good c → (v : Values r) → finish left_over (got v (c.rest ++ z) (next c)) ≡ finish left_over (got v c.rest (next c))
+      left : (c : Cut) → outermost forms most sequence w 0 ≡ good c → (v : Values r) → finish LeftOver (got v (c.rest ++ z) (next c)) ≡ finish LeftOver (got v c.rest (next c))
       left c e v =
           let o = outermost_back most sequence w 0 c e in
           let l : length w ≡ length (tlv sequence c.content) + length c.rest = ap length (head_back sequence w 0 c o.0).0 ∙ length-append (tlv sequence c.content) c.rest in
           let n = o.1 in
-          some_left left_over v c.rest z (next c) (omega arith)
+          some_left LeftOver v c.rest z (next c) (omega arith)
 
       go : (x : Res Cut) → outermost forms most sequence w 0 ≡ x
-          → (bind {A = Got (Values r)} (bind (more_cut z x) λ c. bind (reads r c.content c.start) λ v. good (got v c.rest (next c))) λ a. finish left_over a)
-          ≡ (bind {A = Got (Values r)} (bind x λ c. bind (reads r c.content c.start) λ v. good (got v c.rest (next c))) λ a. finish left_over a)
+          → (bind {A = Got (Values r)} (bind (more_cut z x) λ c. bind (reads r c.content c.start) λ v. good (got v c.rest (next c))) λ a. finish LeftOver a)
+          ≡ (bind {A = Got (Values r)} (bind x λ c. bind (reads r c.content c.start) λ v. good (got v c.rest (next c))) λ a. finish LeftOver a)
       go (good c) e = read (reads r c.content c.start)
         where
-          read : (y : Res (Values r)) → (bind {A = Got (Values r)} (bind y λ v. good (got v (c.rest ++ z) (next c))) λ a. finish left_over a)
-              ≡ (bind {A = Got (Values r)} (bind y λ v. good (got v c.rest (next c))) λ a. finish left_over a)
+          read : (y : Res (Values r)) → (bind {A = Got (Values r)} (bind y λ v. good (got v (c.rest ++ z) (next c))) λ a. finish LeftOver a)
+              ≡ (bind {A = Got (Values r)} (bind y λ v. good (got v c.rest (next c))) λ a. finish LeftOver a)
           read (good v) = left c e v
           read (fault n p) = refl
       go (fault n p) e = refl
@@ -94,7 +96,7 @@ module _ (most : ℕ) (r : Members) where
   sheet_back x v e =
       by_bind _ _ _ e λ a e₁ e₂.
       let b = unfilleds r x 0 a e₁ in
-      let f = finish_back bad_sheet a v e₂ in
+      let f = finish_back BadSheet a v e₂ in
       rw (← f.1) (b.0 ∙ ap (λ (z : List ℕ). sheets r a.value ++ z) f.0 ∙ append-nil (sheets r a.value), b.1)
 
   pub sheet-there : T (clears r) → (v : Values r) → Oks r v → length (sheets r v) < uncounted → accept_sheet r (sheets r v) ≡ good v
@@ -122,13 +124,13 @@ abbrev pub Wrote : List ℕ → List ℕ → Told → List ℕ → Type 0
 Wrote d x t d' = (t ≡ told_one done (length x)) × (take (length x) d' ≡ x) × (drop (length x) d' ≡ drop (length x) d) × (length d' ≡ length d)
 
 -- nothing was written
-abbrev pub Kept : List ℕ → ℕ → ℕ → Told → List ℕ → Type 0
+abbrev pub Kept : List ℕ → Reason → ℕ → Told → List ℕ → Type 0
 Kept d n p t d' = (t ≡ refusal n p) × (d' ≡ d)
 
 abbrev size_told : Res (List ℕ) → Told
 size_told x = answered (λ y. length y) x
 
-pub refused_kept : (d : List ℕ) (y : Res (List ℕ)) (n p : ℕ) → y ≡ fault n p → Kept d n p (size_told y) (stored y d)
+pub refused_kept : (d : List ℕ) (y : Res (List ℕ)) (n : Reason) (p : ℕ) → y ≡ fault n p → Kept d n p (size_told y) (stored y d)
 unfolding stored
 refused_kept d y n p e = (rw e, rw e)
 
@@ -141,6 +143,6 @@ module _ (d x : List ℕ) (y : Res (List ℕ)) (e : y ≡ fit (length d) x) wher
       let q = lib.ListN.length-drop (length x) d in
       (rw f, rw f (take_at x (drop (length x) d) (length x) refl), rw f (drop_at x (drop (length x) d) (length x) refl), rw f (omega arith))
 
-  pub short_kept : length d < length x → Kept d no_room (length x) (size_told y) (stored y d)
+  pub short_kept : length d < length x → Kept d NoRoom (length x) (size_told y) (stored y d)
   unfolding fit need
-  short_kept h = refused_kept d y no_room (length x) (e ∙ rw (lt-leb (length x) (length d) h))
+  short_kept h = refused_kept d y NoRoom (length x) (e ∙ rw (lt-leb (length x) (length d) h))

@@ -1,5 +1,5 @@
 -- The entry that is found is the first of the record's fields that equals the given bytes. Assumes nothing.
-use Rattle.std.specs.Prelude.{◌≡◌, ◌⊎◌, Bool, not, drop, T}
+use Rattle.std.specs.Prelude.{◌≡◌, ◌⊎◌, Bool, not, drop, T, Ok, Err, Some, None}
 use Rattle.std.proofs.Math.Path.{refl, sym, ap, ap₂}
 use Rattle.std.proofs.Common.{◌∙◌, subst, inl, inr, lt-ltb, le-ltb}
 use Prim.Native.Nat.{ℕ, suc, zero, ◌+◌, ◌-◌, ◌≤◌, ◌<◌}
@@ -13,15 +13,16 @@ use Rattle.terms.specs.declared.Field.{Field}
 use Rattle.terms.specs.declared.Field.TheVariants.{ListKind, CertificateList, ListedCertificate, ListedEntry, ListedDigest}
 use Rattle.terms.specs.Names.{same_name}
 use Rattle.terms.specs.Numbers.{most_items, largest_record}
-use Rattle.terms.specs.Answer.{good, pick, same, never_empty}
+use Rattle.terms.specs.Answer.{good, pick, same, never_empty, Answer}
 use Rattle.terms.specs.Laws.Answer.{and_l, or_r, is_true, is_false}
+use Rattle.terms.specs.declared.Refusal.{Refusal}
 use Rattle.heads.specs.Head.{forms, tlv, before, cut_off, head}
 use Rattle.heads.proofs.Laws.Head.{unspelled, head-tlv, length-tlv}
-use Rattle.heads.specs.Scan.{seen, head_at}
-use Rattle.heads.specs.declared.Seen.TheVariants.{Item as At}
+use Rattle.heads.specs.Scan.{seen, head_at, span}
+use Rattle.heads.specs.declared.Span.{Span}
 use Rattle.contents.specs.Integer.{is_kind, says_kind1}
 use Rattle.contents.specs.Leaves.{Leaf, integer, octet_string}
-use Rattle.layouts.specs.Layout.{Item, leaf, node, list, Members, Value, Values, All, InEither, Ok, each, either, encode_leaf, encode, encode_part}
+use Rattle.layouts.specs.Layout.{Item, leaf, node, list, Members, Value, Values, All, InEither, Ok as Allows, each, either, encode_leaf, encode, encode_part}
 use Rattle.layouts.specs.Fields.{Entry, entry, list_entry, start_of, each_fields, either_fields, item_fields, part_fields, fields, is_field, first, Stands}
 use Rattle.layouts.specs.Places.{Placed}
 use Rattle.layouts.proofs.Laws.Fields.{stands_within, stands_cut, all_append, past, leaf_stands}
@@ -29,17 +30,15 @@ use Rattle.layouts.proofs.Laws.Way.{first_skip, first_stop, Asks, Holds}
 use Rattle.layouts.proofs.Laws.Scan.{head-parts}
 use Rattle.layouts.specs.Whole.{sequence, accept, told_outcome}
 use Rattle.layouts.proofs.Laws.Whole.{accept_back}
-use Rattle.layouts.specs.declared.Outcome.{Outcome}
-use Rattle.layouts.specs.declared.Outcome.TheVariants.{Length, Refused as Unread}
 use Rattle.records.specs.Record.{digest, certificates, digests, kind_and_list}
 use Rattle.records.specs.declared.Record.{Record}
-use Rattle.records.specs.Handing.{layout_of, told_record, read_record, fields_of, is_one_of, is_listed, match_answer, told_part}
+use Rattle.records.specs.Handing.{layout_of, told_record, read_record, fields_of, is_one_of, is_listed, match_answer, told_part, told_place}
 use Rattle.records.specs.Laws.Handing.{fields_in_lem, one_of_alike, asked_name}
 use Rattle.records.specs.Laws.List.{list_fields, of_list, list_in}
 use Rattle.records.specs.declared.Part.{Part}
-use Rattle.records.specs.declared.Part.TheVariants.{There, Absent, Refused}
+use Rattle.records.specs.Found.{Found, part}
 use Rattle.fields.specs.Handed.{part_of, part_under}
-use Rattle.fields.specs.Laws.{within-yes, numbers_part, told_part_lem, sought_refused, sought-read, was_read, placed_in}
+use Rattle.fields.specs.Laws.{within-yes, numbers_part, told_part_lem, sought_told, sought-read, was_read, placed_in}
 use Rattle.searches.specs.Match.{entry_at, of_seen, listed_at, bytes_at, match_under}
 
 -- a written item at the front of a window: where its content lies, and what is left
@@ -48,7 +47,7 @@ module _ (s : List ℕ) (t p e : ℕ) (c rest : List ℕ) where
   from = p + before (length c)
 
   head_window : p ≤ e → e ≤ length s → length c < unspelled → slice p e s ≡ tlv t c ++ rest
-      → (head_at t s p e ≡ At from (from + length c)) × (c ≡ slice from (from + length c) s) × (rest ≡ slice (from + length c) e s) × (from + length c ≤ e)
+      → (head_at t s p e ≡ Ok (span from (from + length c))) × (c ≡ slice from (from + length c) s) × (rest ≡ slice (from + length c) e s) × (from + length c ≤ e)
   unfolding head_at
   head_window pe es l h =
       let g : head forms t (slice p e s) p ≡ good (cut_off c rest from) = ap (λ (w : List ℕ). head forms t w p) h ∙ head-tlv t c rest p l in
@@ -59,7 +58,7 @@ module _ (s : List ℕ) (t p e : ℕ) (c rest : List ℕ) where
 record Compared (g : List ℕ) (k : Bool) (s : List ℕ) (e p : ℕ) (x rest : List ℕ) (name : Field) (j : ℕ) (fs : List Entry) : Type 0 where
   bytes : List ℕ
   start : ℕ
-  entry_is : entry_at k s p e ≡ At start (p + length x)
+  entry_is : entry_at k s p e ≡ Ok (span start (p + length x))
   holds : slice start (p + length x) s ≡ bytes
   size : p + length x - start ≡ length bytes
   left : slice (p + length x) e s ≡ rest
@@ -68,7 +67,7 @@ record Compared (g : List ℕ) (k : Bool) (s : List ℕ) (e p : ℕ) (x rest : L
   field : (ys : List Entry) → first (is_listed g) (fs ++ ys) ≡ pick (same g bytes) (some (entry name j start bytes)) (first (is_listed g) ys)
 
 -- what is told of one of two, by a test
-picked : (b : Bool) (x : Entry) (y : Part) (o : Option Entry) → y ≡ part_of (good o) → pick b (There x.place (length x.bytes)) y ≡ part_of (good (pick b (some x) o))
+picked : (b : Bool) (x : Entry) (y : Found Part) (o : Option Entry) → y ≡ part_of (good o) → pick b (Ok (Some (part x.place (length x.bytes)))) y ≡ part_of (good (pick b (some x) o))
 unfolding pick
 picked true x y o h = refl
 picked false x y o h = h
@@ -83,7 +82,7 @@ one_more_lem g k s e p x rest name j fs c n ys r =
 -- entries to the end of a window
 module _ (g : List ℕ) (k : Bool) (s : List ℕ) (e : ℕ) (es : e ≤ length s) {A : Type 0} (enc : A → List ℕ) (f : ℕ → A → ℕ → List Entry) (name : Field)
     (item : (j : ℕ) (a : A) (p : ℕ) (rest : List ℕ) → p ≤ e → length (enc a) < unspelled → slice p e s ≡ enc a ++ rest → Compared g k s e p (enc a) rest name j (f j a p)) where
-  no_more : (n p : ℕ) → p ≤ e → slice p e s ≡ [] → listed_at g k s e n p ≡ Absent
+  no_more : (n p : ℕ) → p ≤ e → slice p e s ≡ [] → listed_at g k s e n p ≡ (Ok None)
   unfolding listed_at pick
   no_more zero p pe h = refl
   no_more (suc n) p pe h = let l : length (slice p e s) ≡ e - p = length-slice p e s es in let z : length (slice p e s) ≡ 0 = ap length h in rw (le-ltb p e (omega arith))
@@ -158,7 +157,7 @@ module _ (g s : List ℕ) (e : ℕ) (es : e ≤ length s) where
       record {
         bytes = v.1.0;
         start = start_of (octet_string never_empty) v.1.0 (p + before (length c) + length x);
-        entry_is = rw (w.0, w₁.0) (w₂.0 ∙ ap₂ At q (k' ∙ k));
+        entry_is = let f : ℕ → ℕ → Answer Span = λ x y. Ok (span x y) in rw (w.0, w₁.0) (w₂.0 ∙ ap₂ f q (k' ∙ k));
         holds = ap₂ (λ (i j : ℕ). slice i j s) (sym q) (sym (k' ∙ k)) ∙ sym w₂.1;
         size = omega arith;
         left = rw (← k) (sym w.2);
@@ -170,7 +169,7 @@ module _ (g s : List ℕ) (e : ℕ) (es : e ≤ length s) where
 -- ---- the list of a record
 
 -- the bytes of a part that stands in a record
-bytes-there : (w : List ℕ) (x : Entry) → Stands w x → bytes_at w (There x.place (length x.bytes)) ≡ x.bytes
+bytes-there : (w : List ℕ) (x : Entry) → Stands w x → bytes_at w (Ok (Some (part x.place (length x.bytes)))) ≡ x.bytes
 bytes-there w x h = rw (within-yes (length w) x.place (length x.bytes) (stands_within w x h)) (stands_cut w x h)
 
 -- no field of an item is asked for where none of each is
@@ -247,10 +246,10 @@ module _ (g w : List ℕ) (xs : List Entry) (d : List ℕ) (pl : Placed 0 xs d) 
     kind-told =
         let k = past w earlier (encode_leaf kind kv) _ later h in
         let e = entry ListKind 0 (start_of kind kv (length earlier)) kv in
-        ap (λ (y : Part). says_kind1 (bytes_at w y)) (numbers_part ListKind d (first (is_field ListKind 0) xs) (pl.1 ListKind) ∙ ap (λ (o : Option Entry). part_of (good o)) (alike (is_field ListKind 0) (asks-field ListKind tt)))
+        ap (λ (y : Found Part). says_kind1 (bytes_at w y)) (numbers_part ListKind d (first (is_field ListKind 0) xs) (pl.1 ListKind) ∙ ap (λ (o : Option Entry). part_of (good o)) (alike (is_field ListKind 0) (asks-field ListKind tt)))
         ∙ ap says_kind1 (bytes-there w e (leaf_stands w earlier _ ListKind 0 kind kv k.0))
 
-  matched : (kv : List ℕ) (s : Value certificates ⊎ Value digests) → InEither (says_kind1 kv) (λ v. Ok certificates v) (λ v. Ok digests v) s → (earlier later : List ℕ)
+  matched : (kv : List ℕ) (s : Value certificates ⊎ Value digests) → InEither (says_kind1 kv) (λ v. Allows certificates v) (λ v. Allows digests v) s → (earlier later : List ℕ)
       → w ≡ earlier ++ ((encode_leaf kind kv ++ either (λ v. encode certificates v) (λ v. encode digests v) s) ++ later)
       → ((q : Entry → Bool) → Asks of_list q → first q xs ≡ first q (part_fields kind_and_list 0 (kv, s) (length earlier)))
       → match_under g w d ≡ part_of (good (first (is_listed g) xs))
@@ -280,13 +279,13 @@ match_is x w g v a d p =
     held_matched g w (fields (layout_of x) v) d p (omega arith) (subst (λ (s : List ℕ). Holds of_list kind_and_list s (fields (layout_of x) v)) (sym b) (list_in x v c))
 
 -- and what is sought in a record that was read
-module _ (x : Record) (w g : List ℕ) (m : Members) (i : m ≡ layout_of x) (o : Outcome) (t : told_outcome o ≡ told_record largest_record m w) where
-  pub match_read : (n : ℕ) (d : List ℕ) (y : Part) → o ≡ Length n → Placed 0 (fields_of m (accept largest_record m w)) d → y ≡ match_under g w d → told_part y ≡ match_answer (layout_of x) g w
+module _ (x : Record) (w g : List ℕ) (m : Members) (i : m ≡ layout_of x) (o : Answer ℕ) (t : told_outcome o ≡ told_record largest_record m w) where
+  pub match_read : (n : ℕ) (d : List ℕ) (y : Found Part) → o ≡ Ok n → Placed 0 (fields_of m (accept largest_record m w)) d → y ≡ match_under g w d → told_part y ≡ match_answer (layout_of x) g w
   match_read n d y q p e =
       let (v, a) = was_read (layout_of x) w m i o t n q in
       let f = fields_in_lem (layout_of x) w v a in
       let z = match_is x w g v a d (rw f at (placed_in (layout_of x) w m i o t 0 d p)) in
       rw (sought-read (layout_of x) w m i o t n q (is_listed g), f) (ap told_part (e ∙ z) ∙ told_part_lem (good (first (is_listed g) (fields (layout_of x) v))))
 
-  pub match_refused_told : (n s : ℕ) → o ≡ Unread n s → told_part (Refused n s) ≡ match_answer (layout_of x) g w
-  match_refused_told n s q = rw (sought_refused (layout_of x) w m i o t n s q (is_listed g))
+  pub match_refused_told : (e : Refusal) → o ≡ Err e → told_part (Err e) ≡ match_answer (layout_of x) g w
+  match_refused_told e q = sought_told (layout_of x) w m i o t e q (is_listed g) told_place

@@ -10,7 +10,7 @@ use Rattle.pieces.specs.Piece.{wrote}
 use Rattle.moves.specs.Walk.{list_move, wrote_body}
 use Rattle.moves.specs.Notes.{notes_all, list_notes, Ready}
 use Rattle.moves.specs.Laws.{item_size, held_size, measured_size, stored_size, content_size, row_size, list_size, member_size}
-use Prim.Native.Nat.{◌-◌, ◌≤◌}
+use Prim.Native.Nat.{◌≤◌}
 use Rattle.moves.proofs.+content_held_list_measured_member_noted_row_stored.Given as goal
 
 abbrev pub decreases-content : goal.decreases-content
@@ -38,13 +38,7 @@ abbrev pub decreases-stored : goal.decreases-stored
 decreases-stored l = stored_size l.x
 
 abbrev pub invariant-list-loop-k : goal.invariant-list-loop-k
-invariant-list-loop-k l = (l.k ≤ l.most) × (length l.dst ≡ length l.initial.dst) × (length l.sizes ≡ length l.initial.sizes) × (wrote_body (list_move l.from l.to (layout_of l.x) l.most 0 l.count l.s l.initial.here.at l.end) l.initial.dst l.initial.here.pos ≡ wrote_body (list_move l.from l.to (layout_of l.x) l.most l.k l.count l.s l.here.at l.end) l.dst l.here.pos) × (puts (list_notes l.from l.to (layout_of l.x) l.most 0 l.count l.s l.initial.here.at l.end) l.initial.sizes l.initial.here.slot ≡ puts (list_notes l.from l.to (layout_of l.x) l.most l.k l.count l.s l.here.at l.end) l.sizes l.here.slot) × Ready l.known (list_notes l.from l.to (layout_of l.x) l.most l.k l.count l.s l.here.at l.end) l.sizes l.here.slot
+invariant-list-loop-k l = (length l.dst ≡ length l.initial.dst) × (length l.sizes ≡ length l.initial.sizes) × (wrote_body (list_move l.source.side l.to (layout_of l.x) l.most 0 l.count l.source.bytes.now l.initial.here.at l.end) l.initial.dst l.initial.here.pos ≡ wrote_body (list_move l.source.side l.to (layout_of l.x) l.most l.k l.count l.source.bytes.now l.here.at l.end) l.dst l.here.pos) × (puts (list_notes l.source.side l.to (layout_of l.x) l.most 0 l.count l.source.bytes.now l.initial.here.at l.end) l.initial.sizes l.initial.here.slot ≡ puts (list_notes l.source.side l.to (layout_of l.x) l.most l.k l.count l.source.bytes.now l.here.at l.end) l.sizes l.here.slot) × Ready l.known (list_notes l.source.side l.to (layout_of l.x) l.most l.k l.count l.source.bytes.now l.here.at l.end) l.sizes l.here.slot
 
-abbrev pub decreases-list-loop-k : goal.decreases-list-loop-k
-decreases-list-loop-k l = l.most - l.k
-
-abbrev pub invariant-row-loop-k : goal.invariant-row-loop-k
-invariant-row-loop-k l = (l.k ≤ row_width) × (length l.members ≡ row_width) × (length l.dst ≡ length l.initial.dst) × (length l.sizes ≡ length l.initial.sizes) × (sizes-of (rest l.k l.members) ≤ sizes-of (members_of l.members)) × (wrote (moves l.from l.to (members_of l.members) l.s l.initial.here.at l.end) l.initial.dst l.initial.here.pos ≡ wrote (moves l.from l.to (rest l.k l.members) l.s l.here.at l.end) l.dst l.here.pos) × (puts (notes_all l.from l.to (members_of l.members) l.s l.initial.here.at l.end) l.initial.sizes l.initial.here.slot ≡ puts (notes_all l.from l.to (rest l.k l.members) l.s l.here.at l.end) l.sizes l.here.slot) × Ready l.known (notes_all l.from l.to (rest l.k l.members) l.s l.here.at l.end) l.sizes l.here.slot
-
-abbrev pub decreases-row-loop-k : goal.decreases-row-loop-k
-decreases-row-loop-k l = row_width - l.k
+abbrev pub invariant-row-loop-m : goal.invariant-row-loop-m
+invariant-row-loop-m l = (length l.m-items ≡ row_width) × (length l.dst ≡ length l.initial.dst) × (length l.sizes ≡ length l.initial.sizes) × (sizes-of (rest l.m-index l.m-items) ≤ sizes-of (members_of l.m-items)) × (wrote (moves l.source.side l.to (members_of l.m-items) l.source.bytes.now l.initial.here.at l.end) l.initial.dst l.initial.here.pos ≡ wrote (moves l.source.side l.to (rest l.m-index l.m-items) l.source.bytes.now l.here.at l.end) l.dst l.here.pos) × (puts (notes_all l.source.side l.to (members_of l.m-items) l.source.bytes.now l.initial.here.at l.end) l.initial.sizes l.initial.here.slot ≡ puts (notes_all l.source.side l.to (rest l.m-index l.m-items) l.source.bytes.now l.here.at l.end) l.sizes l.here.slot) × Ready l.known (notes_all l.source.side l.to (rest l.m-index l.m-items) l.source.bytes.now l.here.at l.end) l.sizes l.here.slot

@@ -8,7 +8,6 @@ use Rattle.std.proofs.Math.Numerals.{add-one}
 use Rattle.std.proofs.Math.Nat.{sub-zero}
 use Rattle.std.proofs.Math.Bool.{Bool}
 use mathlib.Core.List.{List, [], ◌∷◌, ◌++◌}
-use Rattle.std.proofs.Math.ListN.{get_or-eq_default}
 use Rattle.std.proofs.Math.Seq.{set_out}
 use Rattle.terms.specs.declared.Field.{Field}
 use Rattle.terms.specs.Answer.{pick}
@@ -51,20 +50,8 @@ as_ready b t j x y h e = subst (λ (z : List ℕ). Ready b z t j) (sym e) h
 
 -- ---- a note
 
-pub noted_known : (known t : Bool) (n m : ℕ) → known ≡ true → t ≡ ltb n m → t ≡ (known && ltb n m)
-noted_known known t n m h g = rw (h, g)
-
-pub noted_unknown : (known : Bool) (n m : ℕ) → known ≡ false → false ≡ (known && ltb n m)
-noted_unknown known n m h = rw h
-
 noted-slot : (n m : ℕ) (known q : Bool) → q ≡ (known && ltb n m) → q ≡ true → n < m
 noted-slot n m known q g u = ltb→lt n m (and_r known (ltb n m) (rw (← g, u) tt))
-
-pub none_at : (d : List ℕ) (n : ℕ) → length d ≤ n → 0 ≡ get_or d n 0
-none_at d n h = sym (get_or-eq_default d 0 h)
-
-pub set_none : (d : List ℕ) (n v : ℕ) → length d ≤ n → d ≡ set d n v
-set_none d n v h = sym (set_out d n v h)
 
 -- ---- an item
 

@@ -1,12 +1,10 @@
--- `numbers::needed`: the bytes that are left from each turn on have the same content.
-use mathlib.Core.Path.{◌≡◌}
+-- `numbers::needed`: what is left has the same content.
+use Rattle.std.proofs.Common.{◌≡◌, ◌≤◌, length}
 use Rattle.contents.specs.Integer.{shrink}
-use lib.ListN.{length, drop}
-use Prim.Native.Nat.{◌≤◌, ◌-◌}
 use Rattle.numbers.proofs.needed.Given as goal
 
-abbrev pub invariant-loop-i : goal.invariant-loop-i
-invariant-loop-i l = (l.i ≤ length l.c) × (shrink l.c ≡ shrink (drop l.i l.c))
+abbrev pub invariant-loop-rest : goal.invariant-loop-rest
+invariant-loop-rest l = record { short : length l.rest ≤ length l.c; same : shrink l.c ≡ shrink l.rest }
 
-abbrev pub decreases-loop-i : goal.decreases-loop-i
-decreases-loop-i l = length l.c - l.i
+abbrev pub decreases-loop-rest : goal.decreases-loop-rest
+decreases-loop-rest l = length l.rest

@@ -6,6 +6,6 @@ pub returns-then-holds : goal.returns-then-holds
 unfolding ask
 returns-then-holds c = λ a. rw c.if-holds.true
 
-pub returns : goal.returns
+pub returns-else-holds : goal.returns-else-holds
 unfolding ask place_of
-returns c = λ a. rw c.if-holds.false
+returns-else-holds c = λ a. rw (c.if-holds.false, c.at.ensures)

@@ -3,11 +3,11 @@ use borrow.Author.Rules.{rules}
 use Rattle.pieces.specs.Laws.{sign_none, sign_low, sign_high}
 use Rattle.pieces.proofs.sign_of.Goals as goal
 
-pub returns-then-w-eq0 : goal.returns-then-w-eq0
-returns-then-w-eq0 c = search (rules, sign_none, sign_low)
+pub returns-in-128-to-255 : goal.returns-in-128-to-255
+returns-in-128-to-255 c = search (rules, sign_high)
 
-pub returns-then-w-lt128 : goal.returns-then-w-lt128
-returns-then-w-lt128 c = search (rules, sign_none, sign_low)
+pub returns-in_default : goal.returns-in_default
+returns-in_default c = search (rules, sign_none)
 
-pub returns : goal.returns
-returns c = search (rules, sign_high)
+pub returns-in_default-2 : goal.returns-in_default-2
+returns-in_default-2 c = search (rules, sign_low)

@@ -3,8 +3,8 @@ use Rattle.readers.specs.Laws.{outcome-told, places_refused, places_whole}
 use borrow.Author.Rules.{rules}
 use Rattle.readers.proofs.read.Goals as goal
 
-pub returns-in_default : goal.returns-in_default
-returns-in_default c = record { outcome_value = search (rules, outcome-told); placed = search (rules, places_refused) }
+pub returns-then-is_err : goal.returns-then-is_err
+returns-then-is_err c = record { outcome_value = search (rules, outcome-told); placed = search (rules, places_refused) }
 
 pub returns : goal.returns
 returns c = record { outcome_value = search (rules, outcome-told); placed = search (rules, places_whole) }

@@ -1,17 +1,15 @@
 -- What is handed out as a part, by every name that has one, evaluated. The expected places are those of the bytes of S and D. Assumes nothing.
-use Rattle.std.specs.Prelude.{◌≡◌, refl, ℕ, true, false, List, [], ◌∷◌, ◌++◌, set, take, drop, pos, negsuc}
+use Rattle.std.specs.Prelude.{◌≡◌, refl, ℕ, true, false, List, [], ◌∷◌, ◌++◌, set, take, drop, pos, negsuc, Ok, Some, None}
 use Rattle.terms.specs.declared.Field.TheVariants.{SealInformation, Header, Vendor, SealId, Property, SealType, SealName, ListKind, CertificateList, ListedCertificate, ListedEntry, ListedType, ListedDigest, Created, Start, End, Picture, PictureType, PictureData, Width, Height, SealCustomData, SealCustomItem, SealCustomId, SealCustomCritical, SealCustomValue, MakerCertificate, SealAlgorithm, SealSignedValue, SignedPart, Seal, SigningTime, OriginalDigest, PropertyText, SignedCustomData, SignedCustomItem, SignedCustomId, SignedCustomCritical, SignedCustomValue, SignerCertificate, SignatureAlgorithm, SignatureValue, Stamp}
-use Rattle.terms.specs.Numbers.{absent, item_missing}
-use Rattle.terms.specs.Answer.{gives, refuses, told_none, refusal}
+use Rattle.terms.specs.Numbers.{absent}
+use Rattle.terms.specs.declared.Reason.TheVariants.{BadLength, ItemMissing}
+use Rattle.terms.specs.Answer.{gives, refuses, told_none, refusal, refused}
 use Rattle.terms.specs.Laws.Table.{Row, asks, answers, agreed}
 use Rattle.records.specs.Record.{seal, signature}
 use Rattle.records.specs.Handing.{handed_out, field_in, field_answer, match_answer, told_part, told_number, told_is, told_items}
 use Rattle.records.specs.Samples.{record_s, record_d}
 use Rattle.records.specs.Examples.{evaluate, at, seal_d}
-use Rattle.records.specs.declared.Part.TheVariants.{There, Absent, Refused}
-use Rattle.records.specs.declared.Number.TheVariants.{Value, Absent as NoNumber, Refused as NumberRefused}
-use Rattle.records.specs.declared.Critical.TheVariants.{Is, Absent as NoCritical, Refused as CriticalRefused}
-use Rattle.records.specs.declared.Items.TheVariants.{Count, Absent as NoItems, Refused as ItemsRefused}
+use Rattle.records.specs.Found.{part}
 
 -- S with a second certificate AA: each length around it is 3 more
 abbrev twice : List ℕ
@@ -85,7 +83,7 @@ parts_d =
     ∷ (match_answer signature (0x42 ∷ 0x6F ∷ []) record_d, told_none absent)
     ∷ (match_answer signature [] record_d, told_none absent)
     ∷ (match_answer seal (0xD3 ∷ []) seal_d, at 59 1)
-    ∷ (match_answer signature (0xAA ∷ []) [], refusal item_missing 0)
+    ∷ (match_answer signature (0xAA ∷ []) [], refusal ItemMissing 0)
     ∷ []
 
 parts_of_D : asks parts_d ≡ answers parts_d
@@ -95,19 +93,19 @@ parts_of_D = agreed parts_d tt
 -- the code's answers in numbers: 0 for what is there, 254 for what is absent (03, 42), a refusal with its own
 abbrev tellings : List Row
 tellings =
-    (told_part (There 26 4), gives 0 (pos 26 ∷ pos 4 ∷ []))
-    ∷ (told_part Absent, gives 254 [])
-    ∷ (told_part (Refused 3 7), refuses 3 (pos 7 ∷ []))
-    ∷ (told_number (Value (negsuc 2)), gives 0 (negsuc 2 ∷ []))
-    ∷ (told_number NoNumber, gives 254 [])
-    ∷ (told_number (NumberRefused 3 7), refuses 3 (pos 7 ∷ []))
-    ∷ (told_is (Is true), gives 0 (pos 1 ∷ []))
-    ∷ (told_is (Is false), gives 0 (pos 0 ∷ []))
-    ∷ (told_is NoCritical, gives 254 [])
-    ∷ (told_is (CriticalRefused 3 7), refuses 3 (pos 7 ∷ []))
-    ∷ (told_items (Count 2), gives 0 (pos 2 ∷ []))
-    ∷ (told_items NoItems, gives 254 [])
-    ∷ (told_items (ItemsRefused 3 7), refuses 3 (pos 7 ∷ []))
+    (told_part (Ok (Some (part 26 4))), gives 0 (pos 26 ∷ pos 4 ∷ []))
+    ∷ (told_part (Ok None), gives 254 [])
+    ∷ (told_part (refused BadLength 7), refuses 3 (pos 7 ∷ []))
+    ∷ (told_number (Ok (Some (negsuc 2))), gives 0 (negsuc 2 ∷ []))
+    ∷ (told_number (Ok None), gives 254 [])
+    ∷ (told_number (refused BadLength 7), refuses 3 (pos 7 ∷ []))
+    ∷ (told_is (Ok (Some true)), gives 0 (pos 1 ∷ []))
+    ∷ (told_is (Ok (Some false)), gives 0 (pos 0 ∷ []))
+    ∷ (told_is (Ok None), gives 254 [])
+    ∷ (told_is (refused BadLength 7), refuses 3 (pos 7 ∷ []))
+    ∷ (told_items (Ok (Some 2)), gives 0 (pos 2 ∷ []))
+    ∷ (told_items (Ok None), gives 254 [])
+    ∷ (told_items (refused BadLength 7), refuses 3 (pos 7 ∷ []))
     ∷ []
 
 told-answers : asks tellings ≡ answers tellings

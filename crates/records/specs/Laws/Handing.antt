@@ -6,6 +6,7 @@ use Rattle.std.proofs.Math.Logic.{inl, inr}
 use Rattle.std.proofs.Math.Option.{Option, none, some}
 use mathlib.Core.List.{List, [], ◌∷◌}
 use Rattle.std.specs.Borrow.{Bor}
+use Rattle.terms.specs.declared.Reason.{Reason}
 use Rattle.terms.specs.declared.Field.{Field}
 use Rattle.terms.specs.declared.Field.TheVariants.{ListedCertificate, ListedDigest}
 use Rattle.terms.specs.Names.{code, same_name}
@@ -46,7 +47,7 @@ pub listed_is : (given : List ℕ) (x : Entry) → T (is_listed given x) → x.b
 unfolding is_listed
 listed_is given x t = sym (same_eq given x.bytes (and_r (is_one_of (ListedCertificate ∷ ListedDigest ∷ []) x.name) (same given x.bytes) t))
 
-pub refused_told : (r : Members) (w : List ℕ) (n p : ℕ) → read_record r w ≡ fault n p → (f : Field) (k : ℕ) (given : List ℕ)
+pub refused_told : (r : Members) (w : List ℕ) (n : Reason) (p : ℕ) → read_record r w ≡ fault n p → (f : Field) (k : ℕ) (given : List ℕ)
     → (field_answer r f k w ≡ refusal n p) × (match_answer r given w ≡ refusal n p) × (value_answer r f w ≡ refusal n p) × (critical_answer r f k w ≡ refusal n p) × (count_answer r f w ≡ refusal n p)
 unfolding seek bind
 refused_told r w n p e f k given = (rw e, rw e, rw e, rw e, rw e)
@@ -55,7 +56,7 @@ refused_told r w n p e f k given = (rw e, rw e, rw e, rw e, rw e)
 
 module _ (r : Members) (s z : Bor (List ℕ)) (q : Entry → Bool) (h : PartOf s z (handed_out (seek r q s.now))) where
   -- of a refused record no bytes, at its start
-  pub handed_refused : (n p : ℕ) → read_record r s.now ≡ fault n p → Lies s z [] 0
+  pub handed_refused : (n : Reason) (p : ℕ) → read_record r s.now ≡ fault n p → Lies s z [] 0
   unfolding seek bind
   handed_refused n p e = let k = rw e at h in (k.holds, k.lies)
 

@@ -9,8 +9,8 @@ returns-then-run-position c = record { answer_value = search (rules, end_told); 
 pub overflow_sub-result : goal.overflow_sub-result
 overflow_sub-result c = search (rules, record_order)
 
-pub returns-in-Refused : goal.returns-in-Refused
-returns-in-Refused c = record { answer_value = search (rules, fault_told); result_value = search (rules, fault_held) }
+pub returns-in-Err : goal.returns-in-Err
+returns-in-Err c = record { answer_value = search (rules, fault_told); result_value = search (rules, fault_held) }
 
-pub returns-in-Next : goal.returns-in-Next
-returns-in-Next c = record { answer_value = search (rules, record_told); result_value = search (rules, record_held) }
+pub returns-in-Ok : goal.returns-in-Ok
+returns-in-Ok c = record { answer_value = search (rules, record_told); result_value = search (rules, record_held) }

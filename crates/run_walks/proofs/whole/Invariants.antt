@@ -8,7 +8,7 @@ use Rattle.run_walks.specs.Walk.{run_at, told_behind}
 use Rattle.run_walks.proofs.whole.Given as goal
 
 abbrev pub invariant-loop-position : goal.invariant-loop-position
-invariant-loop-position l = (told_behind l.records (run_at (layout_of l.x) l.run l.position) ≡ run_answer (layout_of l.x) l.run) × (l.records ≤ l.position)
+invariant-loop-position l = (told_behind l.before (run_at (layout_of l.x) l.run l.position) ≡ run_answer (layout_of l.x) l.run) × (l.before ≤ l.position)
 
 abbrev pub decreases-loop-position : goal.decreases-loop-position
 decreases-loop-position l = length l.run - l.position

@@ -8,6 +8,7 @@ use Rattle.std.proofs.Math.Option.{none, some}
 use mathlib.Core.List.{List, [], ◌∷◌, ◌++◌, map, append_assoc, append-nil}
 use lib.ListN.{length, take, drop, replicate, length-append}
 use Rattle.std.proofs.Math.Seq.{take_at, drop_at}
+use Rattle.terms.specs.declared.Reason.{Reason}
 use Rattle.terms.specs.Numbers.{largest_record, done, run_end}
 use Rattle.terms.specs.Answer.{Res, good, fault, Got, got, bind, Told, told_one, told_two, told_none}
 use Rattle.terms.specs.Laws.Answer.{never, pick_yes, by_bind}
@@ -106,16 +107,16 @@ module _ (r : Members) where
       go (stopped vs m p) f g = never (cc)
 
   -- a run that is refused: the records before the fault are read, and the reader stands at the fault
-  abbrev Stops : List ℕ → ℕ → List (Values r) → ℕ → ℕ → Type 0
+  abbrev Stops : List ℕ → ℕ → List (Values r) → Reason → ℕ → Type 0
   Stops w b vs n p = (rest : List ℕ) × (w ≡ run_of r vs ++ rest) × All (Accepted r) vs × (here_in r rest (b + length (run_of r vs)) ≡ fault n p)
 
-  stopped_cons : (a : Values r) (x : Ran (Values r)) (vs : List (Values r)) (n p : ℕ) → and_then a x ≡ stopped vs n p → (us : List (Values r)) × (x ≡ stopped us n p) × (a ∷ us ≡ vs)
+  stopped_cons : (a : Values r) (x : Ran (Values r)) (vs : List (Values r)) (n : Reason) (p : ℕ) → and_then a x ≡ stopped vs n p → (us : List (Values r)) × (x ≡ stopped us n p) × (a ∷ us ≡ vs)
   unfolding and_then
   stopped_cons a (whole us) vs n p e = never (cc)
   stopped_cons a (stopped us m q) vs n p e =
       let i : m ≡ n = cc in let j : q ≡ p = cc in let k : a ∷ us ≡ vs = cc in (us, rw (i, j) refl, k)
 
-  run_from_stops : (k : ℕ) (w : List ℕ) (b : ℕ) (vs : List (Values r)) (n p : ℕ) → length w ≤ k → run_from k r w b ≡ stopped vs n p → Stops w b vs n p
+  run_from_stops : (k : ℕ) (w : List ℕ) (b : ℕ) (vs : List (Values r)) (n : Reason) (p : ℕ) → length w ≤ k → run_from k r w b ≡ stopped vs n p → Stops w b vs n p
   unfolding run_from each here_in onward bind
   run_from_stops zero w b vs n p h e = never (cc)
   run_from_stops (suc k) [] b vs n p h e = never (cc)
@@ -144,7 +145,7 @@ module _ (r : Members) where
           let z : b + 0 ≡ b = omega arith in
           rw (← v) (x ∷ w, refl, tt, rw (z, f, i, j) refl)
 
-  pub run_stops : (w : List ℕ) (vs : List (Values r)) (n p : ℕ) → read_run r w ≡ stopped vs n p
+  pub run_stops : (w : List ℕ) (vs : List (Values r)) (n : Reason) (p : ℕ) → read_run r w ≡ stopped vs n p
       → (rest : List ℕ) × (w ≡ run_of r vs ++ rest) × All (Accepted r) vs × (here_at r w (length (run_of r vs)) ≡ fault n p)
   unfolding read_run here_at
   run_stops w vs n p e =
@@ -214,7 +215,7 @@ module _ (r : Members) where
   unfolding step_answer step_after
   step-ends s x e = (rw e refl, rw e refl)
 
-  pub step-faults : (s : List ℕ) (x : Reader) (n p : ℕ) → here_at r s x.position ≡ fault n p → (step_answer r s x ≡ refusal_after n p x.handed) × (step_after r s x ≡ x)
+  pub step-faults : (s : List ℕ) (x : Reader) (n : Reason) (p : ℕ) → here_at r s x.position ≡ fault n p → (step_answer r s x ≡ refusal_after n p x.handed) × (step_after r s x ≡ x)
   unfolding step_answer step_after
   step-faults s x n p e = (rw e refl, rw e refl)
 
@@ -302,7 +303,7 @@ module _ (r : Members) where
   run_walked c vs ok h =
       walk c (run_of r vs) vs [] ok (sym (append-nil (run_of r vs))) h (told_none run_end) (step-ends (run_of r vs) (at (length (run_of r vs)) (length vs)) (here_end (run_of r vs) (length (run_of r vs)) (omega arith)))
 
-  pub stop_walked : T (clears r) → (w : List ℕ) (vs : List (Values r)) (n p : ℕ) → read_run r w ≡ stopped vs n p → length w ≤ top → Walked w vs (refusal_after n p (length vs))
+  pub stop_walked : T (clears r) → (w : List ℕ) (vs : List (Values r)) (n : Reason) (p : ℕ) → read_run r w ≡ stopped vs n p → length w ≤ top → Walked w vs (refusal_after n p (length vs))
   stop_walked c w vs n p e h =
       let s = run_stops w vs n p e in
       walk c w vs s.0 s.2 s.1 h (refusal_after n p (length vs)) (step-faults w (at (length (run_of r vs)) (length vs)) n p s.3)

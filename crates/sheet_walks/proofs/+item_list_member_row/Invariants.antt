@@ -21,14 +21,8 @@ decreases-member l = size_of l.m
 abbrev pub decreases-row : goal.decreases-row
 decreases-row l = suc (sizes (row_of l.x))
 
-abbrev pub invariant-list-loop-k : goal.invariant-list-loop-k
-invariant-list-loop-k l = (l.k ≤ l.n) × (list_walk (layout_of l.x) l.n l.s l.at l.end ≡ list_walk (layout_of l.x) l.k l.s l.p l.end)
+abbrev pub invariant-row-loop-m : goal.invariant-row-loop-m
+invariant-row-loop-m l = (length l.m-items ≡ row_width) × (sizes (from l.m-index l.m-items) ≤ sizes (members_of l.m-items)) × (sheet_scans (members_of l.m-items) l.s l.at l.end ≡ sheet_scans (from l.m-index l.m-items) l.s l.p l.end)
 
-abbrev pub decreases-list-loop-k : goal.decreases-list-loop-k
-decreases-list-loop-k l = l.k
-
-abbrev pub invariant-row-loop-k : goal.invariant-row-loop-k
-invariant-row-loop-k l = (l.k ≤ row_width) × (length l.members ≡ row_width) × (sizes (from l.k l.members) ≤ sizes (members_of l.members)) × (sheet_scans (members_of l.members) l.s l.at l.end ≡ sheet_scans (from l.k l.members) l.s l.p l.end)
-
-abbrev pub decreases-row-loop-k : goal.decreases-row-loop-k
-decreases-row-loop-k l = row_width - l.k
+abbrev pub invariant-list-loop : goal.invariant-list-loop
+invariant-list-loop l = list_walk (layout_of l.x) l.n l.s l.at l.end ≡ list_walk (layout_of l.x) (l.n - l.counter) l.s l.p l.end

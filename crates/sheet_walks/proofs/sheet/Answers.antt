@@ -3,11 +3,11 @@ use Rattle.sheet_walks.specs.Laws.{sheet_refused, sheet_left, sheet-whole}
 use borrow.Author.Rules.{rules}
 use Rattle.sheet_walks.proofs.sheet.Goals as goal
 
-pub returns-in_default : goal.returns-in_default
-returns-in_default c = search (rules, sheet_refused)
+pub returns-in_err-q : goal.returns-in_err-q
+returns-in_err-q c = search (rules, sheet_refused)
 
 pub returns-then-q-s : goal.returns-then-q-s
 returns-then-q-s c = search (rules, sheet_left)
 
 pub returns : goal.returns
-returns c = search (rules, sheet-whole)
+returns c = search (rules, sheet-whole, c.in_ok-q.was)

@@ -1,5 +1,5 @@
 -- What is moved is the value: from a record and from a sheet that are accepted, to every form, for every layout. Assumes nothing.
-use Rattle.std.specs.Prelude.{◌≡◌, Bool, not, List, [], ◌∷◌, ◌++◌, take, drop, eqb}
+use Rattle.std.specs.Prelude.{◌≡◌, Bool, not, List, [], ◌∷◌, ◌++◌, take, drop, eqb, Ok}
 use Rattle.std.proofs.Math.Path.{refl, ap}
 use Rattle.std.proofs.Common.{sym, ◌∙◌, inl, inr, drop-drop, eqb→eq, leb→le}
 use Prim.Native.Nat.{ℕ, suc, zero, ◌+◌, ◌-◌, ◌≤◌, ◌<◌}
@@ -10,12 +10,11 @@ use Rattle.std.proofs.Math.ListN.{length, length-append}
 use Rattle.std.proofs.Math.Seq.{slice}
 use borrow.Author.Tests.{lt-ltb, le-ltb}
 use Rattle.terms.specs.declared.Field.{Field}
-use Rattle.terms.specs.Numbers.{left_over}
+use Rattle.terms.specs.declared.Reason.TheVariants.{LeftOver}
 use Rattle.terms.specs.Answer.{Res, good, Got, pick, same}
 use Rattle.terms.specs.Laws.Answer.{never, clash, good_inj, test, is_true, pick_yes, pick_no, by_bind, by_need, by_have, same_eq}
 use Rattle.heads.specs.Head.{forms, Cut, head, tlv}
-use Rattle.heads.specs.Scan.{head_at, begins_at}
-use Rattle.heads.specs.declared.Seen.TheVariants.{Item as At}
+use Rattle.heads.specs.Scan.{head_at, begins_at, span}
 use Rattle.contents.specs.Integer.{section_bytes, shrink, unstretch}
 use Rattle.contents.specs.Leaves.{Holding, bytes, number, Leaf, value_in, boolean, Known, only}
 use Rattle.contents.proofs.Laws.Leaves.{by_judge}
@@ -23,7 +22,6 @@ use Rattle.layouts.specs.Layout.{Item, leaf, node, list, wrap, Members, end, ◌
 use Rattle.layouts.specs.Reading.{next, read_leaf, begins, many, read_option, read_flag, read_either, read, reads, read_part}
 use Rattle.layouts.specs.Sheet.{count_bytes, count, section, critical_in, sheet_option, sheet_list, sheet, sheet_part, read_count, read_section, fill_leaf, times, fill_flag, fill_option, fill_list, fill, fills, fill_part}
 use Rattle.layouts.specs.SheetScan.{count_at, section_at, value_at as inSection}
-use Rattle.layouts.specs.declared.Tally.TheVariants.{Items}
 use Rattle.layouts.proofs.Laws.Reading.{behind_back, finish_back}
 use Rattle.layouts.proofs.Laws.Scan.{Onward, onward, by_window, head-parts, leaf_parts, begins-agree, item_on, part_on}
 use Rattle.layouts.proofs.Laws.Sheet.{count_back, length-count, section_back, unfilled, unfilled_part}
@@ -233,7 +231,7 @@ module _ (s : List ℕ) (to : Side) where
         let q : c.start ≤ next c = omega arith in
         let q' : next c ≤ length s = omega arith in
         let m = move_read i c.start (next c) q q' a (rw b.0 at e₃) in
-        rw (← good_inj e₆, ← (finish_back left_over a v e₅).1, head_opened t false p e c e₁, m) (pair refl (wrap_out to t i a.value))
+        rw (← good_inj e₆, ← (finish_back LeftOver a v e₅).1, head_opened t false p e c e₁, m) (pair refl (wrap_out to t i a.value))
 
     pub moves_read : (r : Members) (p e : ℕ) → p ≤ e → e ≤ length s → (v : Values r) → reads r (slice p e s) p ≡ good v → (moves Record to r s p e).1 ≡ bytes_of_all to r v
     moves_read end p e pe es v h = end_out to v
@@ -267,7 +265,7 @@ module _ (s : List ℕ) (to : Side) where
 -- ---- from a sheet
 
 -- where the value in a section lies
-value_found : (h : Holding) (s : List ℕ) (p a z : ℕ) (x v : List ℕ) → x ≡ slice a z s → value_in h x ≡ some v → (b : ℕ) × (inSection h s p a z ≡ At b z) × (slice b z s ≡ v)
+value_found : (h : Holding) (s : List ℕ) (p a z : ℕ) (x v : List ℕ) → x ≡ slice a z s → value_in h x ≡ some v → (b : ℕ) × (inSection h s p a z ≡ Ok (span b z)) × (slice b z s ≡ v)
 unfolding unstretch pick
 value_found (bytes rule) s p a z x v i e = let u : x ≡ v = cc in (a, refl, sym i ∙ u)
 value_found (number allowed) s p a z x v i e =
@@ -276,7 +274,7 @@ value_found (number allowed) s p a z x v i e =
     (λ h. let q : some (shrink x) ≡ some v = sym (pick_yes (eqb (length x) section_bytes) _ _ h) ∙ e in
     let u : shrink x ≡ v = cc in
     let n : length x ≡ section_bytes = eqb→eq (length x) section_bytes h in
-    let f : inSection (number allowed) s p a z ≡ At (a + k) z = rw (← i, is_true (eqb (length x) section_bytes) h) refl in
+    let f : inSection (number allowed) s p a z ≡ Ok (span (a + k) z) = rw (← i, is_true (eqb (length x) section_bytes) h) refl in
     (a + k, f, sym (drop-drop k a (take z s)) ∙ ap (drop k) (sym i) ∙ ap (λ (m : ℕ). drop (m - length (shrink x)) x) (sym n) ∙ shrink_last x ∙ u))
     (λ h. let q : none ≡ some v = sym (pick_no (eqb (length x) section_bytes) _ _ h) ∙ e in never (cc))
 
@@ -290,7 +288,7 @@ critical_is x v h = go (same x (0 ∷ [])) (same x (1 ∷ [])) h (λ k. rw (same
     go false false q k = never (cc)
 
 module _ (s : List ℕ) (to : Side) where
-  count-parts : (p e : ℕ) → p ≤ e → e ≤ length s → (n : ℕ × List ℕ) → read_count (slice p e s) p ≡ good n → (n.1 ≡ slice (p + count_bytes) e s) × (p + count_bytes ≤ e) × (count_at s p e ≡ Items n.0)
+  count-parts : (p e : ℕ) → p ≤ e → e ≤ length s → (n : ℕ × List ℕ) → read_count (slice p e s) p ≡ good n → (n.1 ≡ slice (p + count_bytes) e s) × (p + count_bytes ≤ e) × (count_at s p e ≡ Ok n.0)
   unfolding count_at
   count-parts p e pe es n h =
       let l = length-count n.0 in
@@ -331,7 +329,7 @@ module _ (s : List ℕ) (to : Side) where
   part_filled : (m : Member) (p e : ℕ) → p ≤ e → e ≤ length s → (x : Got (Part m)) → fill_part m (slice p e s) p ≡ good x → Onward s p e x.rest x.after
   part_filled m p e pe es x h = let w = unfilled_part m (slice p e s) p x h in onward p e s (sheet_part m x.value) x.rest x.after pe es w.0 w.2
 
-  list_opened : (t p e n : ℕ) → count_at s p e ≡ Items n → open_at Sheet t true s p e ≡ (n, p + count_bytes, e)
+  list_opened : (t p e n : ℕ) → count_at s p e ≡ Ok n → open_at Sheet t true s p e ≡ (n, p + count_bytes, e)
   unfolding open_at
   list_opened t p e n h = rw h
 
@@ -339,7 +337,7 @@ module _ (s : List ℕ) (to : Side) where
   unfolding open_at
   node_opened t p e = refl
 
-  option-opened : (t p e n : ℕ) → count_at s p e ≡ Items n → present_at Sheet t s p e ≡ (not (eqb n 0), p + count_bytes)
+  option-opened : (t p e n : ℕ) → count_at s p e ≡ Ok n → present_at Sheet t s p e ≡ (not (eqb n 0), p + count_bytes)
   unfolding present_at
   option-opened t p e n h = rw h
 

@@ -1,10 +1,8 @@
 -- `stores::put`: past the end nothing is stored.
-use Rattle.stores.specs.Laws.Steps.{put_gone, put-there}
 use borrow.Author.Rules.{rules}
+use Rattle.stores.specs.Laws.Steps.{put_gone, put-there}
 use Rattle.stores.proofs.put.Goals as goal
-
-pub returns-then-dst-o : goal.returns-then-dst-o
-returns-then-dst-o c = search (rules, put_gone)
+use Rattle.stores.proofs.put.Goals.{then-o-dst, else-o-dst}
 
 pub returns : goal.returns
-returns c = search (rules, put-there)
+returns c = elim c.if-o-dst.branch [ then-o-dst w ↦ search (rules, put-there) | else-o-dst w ↦ search (rules, put_gone) ]

@@ -113,7 +113,7 @@ set_here [] d x b = refl
 set_here (a ∷ front) d x b = ap (λ (l : List ℕ). a ∷ l) (set_here front d x b)
 
 -- behind bytes that stay
-put-behind : (front d y : List ℕ) → length front + length y ≤ cap → length y ≤ length d → put (front ++ d) (length front) y ≡ front ++ (y ++ drop (length y) d)
+pub put-behind : (front d y : List ℕ) → length front + length y ≤ cap → length y ≤ length d → put (front ++ d) (length front) y ≡ front ++ (y ++ drop (length y) d)
 put-behind front d [] h k = put_none (front ++ d) (length front)
 put-behind front [] (b ∷ y) h k = absurd (omega arith)
 put-behind front (x ∷ d) (b ∷ y) h k =

@@ -1,15 +1,17 @@
 -- How an answer was come by: backwards, what a good answer was made of; forwards, what it comes to. Assumes nothing.
-use Rattle.std.specs.Prelude.{◌≡◌, refl, ℕ, ◌≤◌, ◌<◌, Bool, true, false, not, ◌&&◌, ◌||◌, List, [], ◌∷◌, T, eqb, ltb}
+use Rattle.std.specs.Prelude.{◌≡◌, refl, ℕ, ◌≤◌, ◌<◌, Bool, true, false, not, ◌&&◌, ◌||◌, List, [], ◌∷◌, T, eqb, ltb, Ok, Err, IsErr, IsErrAnd}
 use Rattle.std.proofs.Common.{sym, ap, ap₂, arith, eqb→eq, lt→ltb, eq-eqb, le-ltb}
 use Rattle.std.proofs.Math.Option.{Option, none, some}
-use Rattle.terms.specs.Answer.{Res, good, fault, pick, bind, need, have, same}
+use Rattle.terms.specs.declared.Reason.{Reason}
+use Rattle.terms.specs.declared.Refusal.{Refusal}
+use Rattle.terms.specs.Answer.{Res, good, fault, pick, bind, need, have, same, Answer}
 
 -- 0 is not 1, which is what two different cases that are the same come to
 pub never {ℓ} : {X : Type ℓ} → ◌≡◌ {A = ℕ} 0 1 → X
 never e = absurd (omega arith)
 
 -- a refusal is no answer
-pub clash {ℓ} : {A : Type 0} {X : Type ℓ} {n p : ℕ} {a : A} → fault n p ≡ good a → X
+pub clash {ℓ} : {A : Type 0} {X : Type ℓ} {n : Reason} {p : ℕ} {a : A} → fault n p ≡ good a → X
 clash {A} {X} {n} {p} {a} e = never (cc)
 
 pub good_inj : {A : Type 0} {a b : A} → good a ≡ good b → a ≡ b
@@ -83,12 +85,12 @@ unfolding bind
 by_bind (good a) k b e f = f a refl e
 by_bind (fault n p) k b e f = clash e
 
-pub by_need {ℓ} : {A : Type 0} {X : Type ℓ} (t : Bool) (n p : ℕ) (r : Res A) (a : A) → need t n p r ≡ good a → (T t → r ≡ good a → X) → X
+pub by_need {ℓ} : {A : Type 0} {X : Type ℓ} (t : Bool) (n : Reason) (p : ℕ) (r : Res A) (a : A) → need t n p r ≡ good a → (T t → r ≡ good a → X) → X
 unfolding need
 by_need true n p r a e f = f tt e
 by_need false n p r a e f = clash e
 
-pub by_have {ℓ} : {A : Type 0} {X : Type ℓ} (o : Option A) (n p : ℕ) (a : A) → have o n p ≡ good a → (o ≡ some a → X) → X
+pub by_have {ℓ} : {A : Type 0} {X : Type ℓ} (o : Option A) (n : Reason) (p : ℕ) (a : A) → have o n p ≡ good a → (o ≡ some a → X) → X
 unfolding have
 by_have (some b) n p a e f = f (ap some (good_inj e))
 by_have none n p a e f = clash e
@@ -99,7 +101,22 @@ pub bind_eq : {A B : Type 0} {r : Res A} {a : A} (k : A → Res B) → r ≡ goo
 unfolding bind
 bind_eq k e = ap (λ r. bind r k) e
 
-pub need_eq : {A : Type 0} (t : Bool) (n p : ℕ) (r : Res A) → T t → need t n p r ≡ r
+pub need_eq : {A : Type 0} (t : Bool) (n : Reason) (p : ℕ) (r : Res A) → T t → need t n p r ≡ r
 unfolding need
 need_eq true n p r h = refl
 need_eq false n p r h = absurd h
+
+-- ---- as code answers
+
+-- of two answers that are the same
+pub same_answer : {A : Type 0} {a b : A} → ◌≡◌ {A = Answer A} (Ok a) (Ok b) → a ≡ b
+same_answer h = cc
+
+-- and of two refusals
+pub same_refusal : {A : Type 0} {e f : Refusal} → ◌≡◌ {A = Answer A} (Err e) (Err f) → e ≡ f
+same_refusal h = cc
+
+-- what `?` hands on is the refusal that it was given
+pub handed_on : {A : Type 0} (y : Answer A) (r : Refusal) → IsErr y × IsErrAnd y (λ e. e ≡ r) → y ≡ Err r
+handed_on (Ok a) r h = absurd h.1
+handed_on (Err e) r h = rw h.1

@@ -3,8 +3,8 @@ use Rattle.texts.specs.Laws.{header_text, header_rule}
 use borrow.Author.Rules.{rules}
 use Rattle.texts.proofs.header_name.Goals as goal
 
-pub returns-in_default : goal.returns-in_default
-returns-in_default c = search (rules, header_text)
+pub returns-in_err-ia5 : goal.returns-in_err-ia5
+returns-in_err-ia5 c = search (rules, header_text)
 
 pub returns : goal.returns
-returns c = search (rules, header_rule)
+returns c = search (rules, header_rule, c.in_ok-ia5.was)

@@ -2,12 +2,14 @@
 use borrow.Author.Rules.{rules}
 use Rattle.times.specs.Laws.Whole.{other_length, no_time, right_time}
 use Rattle.times.proofs.time.Goals as goal
+use Rattle.times.proofs.time.Goals.{else-w-eq-TIME_BYTES-via-then-w-eq-TIME_BYTES+else-is_some, else-w-eq-TIME_BYTES-via-else-w-eq-TIME_BYTES}
 
-pub returns-then-w-ne-TIME_BYTES : goal.returns-then-w-ne-TIME_BYTES
-returns-then-w-ne-TIME_BYTES c = search (rules, other_length)
+pub returns-then-is_some : goal.returns-then-is_some
+returns-then-is_some c = search (rules, right_time)
 
-pub returns-in_default : goal.returns-in_default
-returns-in_default c = search (rules, no_time)
-
-pub returns : goal.returns
-returns c = search (rules, right_time)
+pub returns-else-w-eq-TIME_BYTES : goal.returns-else-w-eq-TIME_BYTES
+returns-else-w-eq-TIME_BYTES c =
+    elim c.else-w-eq-TIME_BYTES.branch [
+      | else-w-eq-TIME_BYTES-via-then-w-eq-TIME_BYTES+else-is_some w ↦ search (rules, no_time)
+      | else-w-eq-TIME_BYTES-via-else-w-eq-TIME_BYTES w ↦ search (rules, other_length)
+    ]

@@ -1,43 +1,42 @@
 -- One part of a time: the machine of the rules, which stops at the first impossible digit, says what reading all digits first says. Assumes nothing.
-use Rattle.std.specs.Prelude.{◌≡◌, refl, Bool, true, false, not, ◌&&◌, List, [], ◌∷◌, length, get_or, drop, T, leb}
+use Rattle.std.specs.Prelude.{◌≡◌, refl, Bool, true, false, not, ◌&&◌, List, [], ◌∷◌, drop, T, leb}
 use Rattle.std.proofs.Math.Path.{sym}
-use Rattle.std.proofs.Common.{◌∙◌, subst, add-one, add-zero, pow-suc, mul_assoc, mul-one, mul-le-mul_right, le_trans, lt_of_lt_of_le, drop_of_length-le, drop-cons, drop-drop, leb→le, ltb→lt, le→leb, lt→ltb, Fits}
+use Rattle.std.proofs.Common.{◌∙◌, subst, add-one, add-zero, pow-suc, mul_assoc, mul-one, mul-le-mul_right, le_trans, lt_of_lt_of_le, drop-drop, leb→le, ltb→lt, le→leb, lt→ltb, Fits}
 use Prim.Native.Nat.{ℕ, suc, zero, ◌+◌, ◌*◌, ◌-◌, ◌^◌, ◌≤◌, ◌<◌}
 use native.Mathlib.Omega.{arith}
 use Rattle.std.proofs.Math.Nat.{sub-zero, pow-succ'}
 use Rattle.std.proofs.Math.Bool.{and_comm}
 use Rattle.std.proofs.Math.Dec.{leb-suc-suc}
 use Rattle.std.specs.Int.{w64}
-use borrow.Author.Tests.{le-leb, lt-leb, not-true, not-false}
+use borrow.Author.Tests.{le-leb}
 use Rattle.terms.specs.Answer.{pick, need}
 use Rattle.terms.specs.Laws.Answer.{never, test, and_l, and_r, both, is_true, is_false, pick_yes, pick_no}
 use Rattle.contents.specs.Time.{possible, is_digit, part_from}
-use Rattle.times.specs.declared.Parsed.{Parsed}
-use Rattle.times.specs.declared.Parsed.TheVariants.{Number, Nothing}
+use Rattle.std.specs.Prelude.{Option, Some, None}
 use Rattle.times.specs.Time.{heard, after, AtMost, first_digit, inside, part_at}
 
-number_inj : {m n : ℕ} → Number m ≡ Number n → m ≡ n
+number_inj : {m n : ℕ} → Some m ≡ Some n → m ≡ n
 number_inj e = cc
 
 -- no number is none
-pub no_number_lem : {X : Type 0} {n : ℕ} → Nothing ≡ Number n → X
+pub no_number_lem : {X : Type 0} {n : ℕ} → None ≡ Some n → X
 no_number_lem e = never (cc)
 
-pub at_most : {m n : ℕ} {r : Parsed} → AtMost m r → r ≡ Number n → n ≤ m
+pub at_most : {m n : ℕ} {r : Option ℕ} → AtMost m r → r ≡ Some n → n ≤ m
 at_most h e = rw e at h
 
-pub at_most_of : {m n k : ℕ} {r : Parsed} → AtMost m r → r ≡ Number n → m ≤ k → n ≤ k
+pub at_most_of : {m n k : ℕ} {r : Option ℕ} → AtMost m r → r ≡ Some n → m ≤ k → n ≤ k
 at_most_of {m} {n} {k} {r} h e l = le_trans (at_most h e) l
 
 -- ---- all digits first
 
 -- `k` digits after the number `n`
-unfoldable pub plain : ℕ → ℕ → List ℕ → Parsed
-plain zero n w = Number n
+unfoldable pub plain : ℕ → ℕ → List ℕ → Option ℕ
+plain zero n w = Some n
 plain (suc k) n w = after (first_digit w) λ d. plain k (n * 10 + d) (drop 1 w)
 
-unfoldable pub within : ℕ → ℕ → ℕ → Parsed
-within low high n = pick (inside low high n) (Number n) Nothing
+unfoldable pub within : ℕ → ℕ → ℕ → Option ℕ
+within low high n = pick (inside low high n) (Some n) None
 
 digit_small : (d : ℕ) → T (is_digit d) → d - 0x30 ≤ 9
 unfolding is_digit
@@ -66,9 +65,9 @@ no true h k = k
 no false h k = h
 
 -- once impossible, for ever
-out : (low high k n : ℕ) (w : List ℕ) → T (not (possible low high k n)) → after (plain k n w) (within low high) ≡ Nothing
+out : (low high k n : ℕ) (w : List ℕ) → T (not (possible low high k n)) → after (plain k n w) (within low high) ≡ None
 unfolding plain after within first_digit pick
-out low high zero n w h = pick_no (inside low high n) (Number n) Nothing (subst (λ (t : Bool). T (not t)) (at_last low high n) h)
+out low high zero n w h = pick_no (inside low high n) (Some n) None (subst (λ (t : Bool). T (not t)) (at_last low high n) h)
 out low high (suc k) n [] h = refl
 out low high (suc k) n (d ∷ w) h =
     test (is_digit d)
@@ -80,7 +79,7 @@ out low high (suc k) n (d ∷ w) h =
 
 pub all_first : (low high k n b : ℕ) (w : List ℕ) → T (possible low high k n) → heard (part_from k low high n w b) ≡ after (plain k n w) (within low high)
 unfolding plain after heard part_from within first_digit pick need
-all_first low high zero n b w h = sym (pick_yes (inside low high n) (Number n) Nothing (subst (λ (t : Bool). T t) (at_last low high n) h))
+all_first low high zero n b w h = sym (pick_yes (inside low high n) (Some n) None (subst (λ (t : Bool). T t) (at_last low high n) h))
 all_first low high (suc k) n b [] h = refl
 all_first low high (suc k) n b (d ∷ w) h =
     test (is_digit d)
@@ -92,31 +91,13 @@ all_first low high (suc k) n b (d ∷ w) h =
 
 -- ---- at a position of a window
 
-module _ (w : List ℕ) (i : ℕ) where
-  pub digit_end : length w ≤ i → Nothing ≡ first_digit (drop i w)
-  unfolding first_digit
-  digit_end h = rw (drop_of_length-le w h)
-
-  module _ (d : ℕ) (h : i < length w) (e : d ≡ get_or w i 0) where
-    pub digit_low : d < 0x30 → Nothing ≡ first_digit (drop i w)
-    unfolding first_digit is_digit pick
-    digit_low l = rw (drop-cons w i 0 h, ← e, lt-leb 0x30 d l)
-
-    pub digit_high : 0x30 ≤ d → 0x39 < d → Nothing ≡ first_digit (drop i w)
-    unfolding first_digit is_digit pick
-    digit_high l m = rw (drop-cons w i 0 h, ← e, le-leb 0x30 d l, lt-leb d 0x39 m)
-
-    pub digit_good : 0x30 ≤ d → d ≤ 0x39 → Number (d - 0x30) ≡ first_digit (drop i w)
-    unfolding first_digit is_digit pick
-    digit_good l m = rw (drop-cons w i 0 h, ← e, le-leb 0x30 d l, le-leb d 0x39 m)
-
 -- after `j` of `k` digits the number is `n`, and the rest leads to the whole
 pub record Going (k i : ℕ) (w : List ℕ) (n j : ℕ) : Type 0 where
   pub few : j ≤ k
   pub small : n < 10 ^ j
   pub rest : plain k 0 (drop i w) ≡ plain (k - j) n (drop (i + j) w)
 
-one_more_lem : (k i : ℕ) (w : List ℕ) (n j x : ℕ) → j < k → first_digit (drop (i + j) w) ≡ Number x → plain (k - j) n (drop (i + j) w) ≡ plain (k - (j + 1)) (n * 10 + x) (drop (i + (j + 1)) w)
+one_more_lem : (k i : ℕ) (w : List ℕ) (n j x : ℕ) → j < k → first_digit (drop (i + j) w) ≡ Some x → plain (k - j) n (drop (i + j) w) ≡ plain (k - (j + 1)) (n * 10 + x) (drop (i + (j + 1)) w)
 unfolding plain after
 one_more_lem k i w n j x h e =
     let q : k - j ≡ suc (k - (j + 1)) = omega arith in
@@ -127,18 +108,18 @@ module _ {k i : ℕ} {w : List ℕ} where
   pub starts : Going k i w 0 0
   starts = record { few = omega arith; small = omega arith; rest = rw (add-zero i, sub-zero k) }
 
-  pub turns : {n j x : ℕ} {r : Parsed} → Going k i w n j → j < k → r ≡ first_digit (drop (i + j) w) → r ≡ Number x → x ≤ 9 → Going k i w (n * 10 + x) (j + 1)
+  pub turns : {n j x : ℕ} {r : Option ℕ} → Going k i w n j → j < k → r ≡ first_digit (drop (i + j) w) → r ≡ Some x → x ≤ 9 → Going k i w (n * 10 + x) (j + 1)
   turns {n} {j} {x} g h d e l = record {
     few = omega arith;
     small = rw (add-one j, pow-suc 10 j) (omega (arith, g.small));
     rest = g.rest ∙ one_more_lem k i w n j x h (sym d ∙ e);
   }
 
-  pub stops : {n j : ℕ} {r : Parsed} → Going k i w n j → j < k → r ≡ first_digit (drop (i + j) w) → r ≡ Nothing → plain k 0 (drop i w) ≡ Nothing
+  pub stops : {n j : ℕ} {r : Option ℕ} → Going k i w n j → j < k → r ≡ first_digit (drop (i + j) w) → r ≡ None → plain k 0 (drop i w) ≡ None
   unfolding plain after
   stops {n} {j} g h d e = g.rest ∙ (let q : k - j ≡ suc (k - (j + 1)) = omega arith in rw (q, ← d, e))
 
-  pub ends : {n j : ℕ} → Going k i w n j → k ≤ j → plain k 0 (drop i w) ≡ Number n
+  pub ends : {n j : ℕ} → Going k i w n j → k ≤ j → plain k 0 (drop i w) ≡ Some n
   unfolding plain
   ends {n} {j} g h = g.rest ∙ (let q : k - j ≡ 0 = omega arith in rw q)
 
@@ -156,7 +137,7 @@ room {k} {i} {n} {j} g h l = few_small n j g.small (omega arith)
 pub fits_scaled : {k i n j : ℕ} {w : List ℕ} → Going k i w n j → j < k → k ≤ 4 → Fits w64 (n * 10)
 fits_scaled g h l = record { fits = omega (arith, room g h l) }
 
-pub fits_more : {k i n j x : ℕ} {w : List ℕ} {r : Parsed} → Going k i w n j → j < k → k ≤ 4 → AtMost 9 r → r ≡ Number x → Fits w64 (n * 10 + x)
+pub fits_more : {k i n j x : ℕ} {w : List ℕ} {r : Option ℕ} → Going k i w n j → j < k → k ≤ 4 → AtMost 9 r → r ≡ Some x → Fits w64 (n * 10 + x)
 fits_more g h l m e = record { fits = omega (arith, room g h l, at_most m e) }
 
 module _ (k low high i : ℕ) (w : List ℕ) (some-way : low < 10 ^ k) where
@@ -165,22 +146,18 @@ module _ (k low high i : ℕ) (w : List ℕ) (some-way : low < 10 ^ k) where
   unfolding part_at possible
   part-plain = all_first low high k 0 i (drop i w) (both (leb (0 * 10 ^ k) high) _ (le→leb (0 * 10 ^ k) high (omega arith)) (lt→ltb low ((0 + 1) * 10 ^ k) (omega arith)))
 
-  pub part_none : plain k 0 (drop i w) ≡ Nothing → Nothing ≡ part_at k low high i w
+  pub part_none : plain k 0 (drop i w) ≡ None → None ≡ part_at k low high i w
   unfolding after
   part_none e = rw (part-plain, e)
 
-  module _ {n : ℕ} {r : Bool} (e : plain k 0 (drop i w) ≡ Number n) (t : r ≡ inside low high n) where
-    pub part_out : not r ≡ true → Nothing ≡ part_at k low high i w
+  module _ {n : ℕ} {r : Bool} (e : plain k 0 (drop i w) ≡ Some n) (t : r ≡ inside low high n) where
+    pub part_out : r ≡ false → None ≡ part_at k low high i w
     unfolding after within pick
-    part_out h = rw (part-plain, e, sym t ∙ not-true r h)
+    part_out h = rw (part-plain, e, sym t ∙ h)
 
-    pub part_in : not r ≡ false → Number n ≡ part_at k low high i w
+    pub part_in : r ≡ true → Some n ≡ part_at k low high i w
     unfolding after within pick
-    part_in h = rw (part-plain, e, sym t ∙ not-false r h)
-
-pub too_low : (low high n : ℕ) → n < low → false ≡ inside low high n
-unfolding inside
-too_low low high n h = rw (lt-leb low n h)
+    part_in h = rw (part-plain, e, sym t ∙ h)
 
 pub not_too_low : (low high n : ℕ) → low ≤ n → leb n high ≡ inside low high n
 unfolding inside
@@ -192,24 +169,24 @@ inside_both low high n e =
     let t : T (leb low n && leb n high) = subst (λ (b : Bool). T b) (sym e) tt in
     (leb→le low n (and_l (leb low n) (leb n high) t), leb→le n high (and_r (leb low n) (leb n high) t))
 
-module _ (low high n : ℕ) {r : Bool} (e : r ≡ inside low high n) (h : not r ≡ false) where
+module _ (low high n : ℕ) {r : Bool} (e : r ≡ inside low high n) (h : r ≡ true) where
   pub inside_least : low ≤ n
-  inside_least = (inside_both low high n (sym e ∙ not-false r h)).0
+  inside_least = (inside_both low high n (sym e ∙ h)).0
 
   pub inside_most : n ≤ high
-  inside_most = (inside_both low high n (sym e ∙ not-false r h)).1
+  inside_most = (inside_both low high n (sym e ∙ h)).1
 
 -- a part that was read is no less than the least
-pub part_least : (k low high i : ℕ) (w : List ℕ) {r : Parsed} {n : ℕ} → low < 10 ^ k → r ≡ part_at k low high i w → r ≡ Number n → low ≤ n
+pub part_least : (k low high i : ℕ) (w : List ℕ) {r : Option ℕ} {n : ℕ} → low < 10 ^ k → r ≡ part_at k low high i w → r ≡ Some n → low ≤ n
 unfolding after within
 part_least k low high i w {r} {n} s e q = go (plain k 0 (drop i w)) (sym (part-plain k low high i w s) ∙ sym e ∙ q)
   where
-    read : (m : ℕ) → within low high m ≡ Number n → low ≤ n
+    read : (m : ℕ) → within low high m ≡ Some n → low ≤ n
     read m g =
         test (inside low high m)
-        (λ t. let v : m ≡ n = number_inj (sym (pick_yes (inside low high m) (Number m) Nothing t) ∙ g) in rw (← v) (inside_both low high m (is_true (inside low high m) t)).0)
-        (λ t. no_number_lem (sym (pick_no (inside low high m) (Number m) Nothing t) ∙ g))
+        (λ t. let v : m ≡ n = number_inj (sym (pick_yes (inside low high m) (Some m) None t) ∙ g) in rw (← v) (inside_both low high m (is_true (inside low high m) t)).0)
+        (λ t. no_number_lem (sym (pick_no (inside low high m) (Some m) None t) ∙ g))
 
-    go : (p : Parsed) → after p (within low high) ≡ Number n → low ≤ n
-    go (Number m) g = read m g
-    go Nothing g = no_number_lem g
+    go : (p : Option ℕ) → after p (within low high) ≡ Some n → low ≤ n
+    go (Some m) g = read m g
+    go None g = no_number_lem g

@@ -1,20 +1,19 @@
 -- A whole time: its parts at their places, the date's and the clock's together. Assumes nothing.
-use Rattle.std.specs.Prelude.{◌≡◌, ℕ, suc, zero, ◌+◌, ◌*◌, ◌-◌, ◌≤◌, ◌<◌, Bool, true, false, not, ◌&&◌, List, [], ◌∷◌, get_or, drop, T, ltb, eqb}
+use Rattle.std.specs.Prelude.{◌≡◌, ℕ, suc, zero, ◌+◌, ◌*◌, ◌-◌, ◌≤◌, ◌<◌, Bool, true, false, ◌&&◌, List, [], ◌∷◌, get_or, drop, T, ltb, eqb, Ok}
 use Rattle.std.proofs.Math.Path.{refl}
 use Rattle.std.proofs.Common.{sym, ap, ◌∙◌, drop-drop, ltb→lt, nltb→le}
 use native.Mathlib.Omega.{arith}
 use Rattle.std.proofs.Math.ListN.{length, drop_of_length-le}
 use Rattle.std.proofs.Math.Seq.{slice, drop-cons}
-use borrow.Author.Tests.{not-true, not-false}
-use Rattle.terms.specs.Answer.{Res, good, fault, Got, got, pick, bind, need, same}
-use Rattle.terms.specs.Numbers.{bad_time}
-use Rattle.terms.specs.Laws.Answer.{clash, good_inj, test, by_need, is_true, is_false}
+use Rattle.terms.specs.declared.Reason.{Reason}
+use Rattle.terms.specs.Answer.{Res, good, fault, Got, got, pick, bind, need, same, refused}
+use Rattle.terms.specs.declared.Reason.TheVariants.{BadTime}
+use Rattle.std.specs.Option.{is_some, unwrap_or}
+use Rattle.terms.specs.Laws.Answer.{never, clash, good_inj, test, by_need, is_true, is_false}
 use Rattle.contents.specs.Content.{fine, wrong, tag, ask, place_of}
 use Rattle.contents.specs.Scan.{checked_at}
-use Rattle.contents.specs.declared.Checked.TheVariants.{Fine, Wrong}
 use Rattle.contents.specs.Time.{year_digits, month_length, possible, is_digit, part_from, zulu, Moment, moment, time_from, time_check, time_rule, moment_in, moment_of}
-use Rattle.times.specs.declared.Parsed.{Parsed}
-use Rattle.times.specs.declared.Parsed.TheVariants.{Number, Nothing}
+use Rattle.std.specs.Prelude.{Option, Some, None}
 use Rattle.times.specs.Time.{heard, after, part_at, number_of, told, closing, date_in, clock_in, time_in}
 use Rattle.times.specs.Laws.Parts.{no_number_lem}
 
@@ -27,14 +26,14 @@ unfolding part_from
 rest zero low high n b w x e = let q = good_inj e in (sym (ap (λ (y : Got ℕ). y.rest) q), sym (ap (λ (y : Got ℕ). y.after) q) ∙ (let z : b ≡ b + 0 = omega arith in z))
 rest (suc k) low high n b [] x e = clash e
 rest (suc k) low high n b (d ∷ w) x e =
-    by_need (is_digit d && possible low high k (n * 10 + (d - 0x30))) bad_time b _ x e λ t f.
+    by_need (is_digit d && possible low high k (n * 10 + (d - 0x30))) BadTime b _ x e λ t f.
     let (p, q) = rest k low high (n * 10 + (d - 0x30)) (b + 1) w x f in
     (p, q ∙ (let z : b + 1 + k ≡ b + suc k = omega arith in z))
 
 -- one part after the other: what holds of a refusal, and after every number that this part may have, holds
 by_part : (k low high i : ℕ) (c : List ℕ) (K : Got ℕ → Res (Got Moment)) (P : Res (Got Moment) → Type 0)
-    → ((n p : ℕ) → part_at k low high i c ≡ Nothing → P (fault n p))
-    → ((n : ℕ) → part_at k low high i c ≡ Number n → P (K (got n (drop (i + k) c) (i + k))))
+    → ((n : Reason) (p : ℕ) → part_at k low high i c ≡ None → P (fault n p))
+    → ((n : ℕ) → part_at k low high i c ≡ Some n → P (K (got n (drop (i + k) c) (i + k))))
     → P (bind (part_from k low high 0 (drop i c) i) K)
 unfolding part_at bind heard
 by_part k low high i c K P f g = go (part_from k low high 0 (drop i c) i) refl
@@ -46,17 +45,17 @@ by_part k low high i c K P f g = go (part_from k low high 0 (drop i c) i) refl
         let h = g x.value (ap heard e) in
         rw (← drop-drop k i c, ← p, ← q) at h
 
-step : (k low high i : ℕ) (c : List ℕ) (K : Got ℕ → Res (Got Moment)) (f g : ℕ → Parsed)
+step : (k low high i : ℕ) (c : List ℕ) (K : Got ℕ → Res (Got Moment)) (f g : ℕ → Option ℕ)
     → ((n : ℕ) → told (K (got n (drop (i + k) c) (i + k))) ≡ after (f n) g)
     → told (bind (part_from k low high 0 (drop i c) i) K) ≡ after (after (part_at k low high i c) f) g
 unfolding after told
 step k low high i c K f g h = by_part k low high i c K (λ r. told r ≡ after (after (part_at k low high i c) f) g) (λ n p e. rw e) (λ n e. rw e (h n))
 
-last : (T : ℕ) (c : List ℕ) (g : ℕ → Parsed) (v : ℕ) → Number v ≡ g T → told (bind (zulu (drop 14 c) 14) λ z. good (got (moment v) z.rest z.after)) ≡ after (pick (closing (drop 14 c)) (Number T) Nothing) g
+last : (T : ℕ) (c : List ℕ) (g : ℕ → Option ℕ) (v : ℕ) → Some v ≡ g T → told (bind (zulu (drop 14 c) 14) λ z. good (got (moment v) z.rest z.after)) ≡ after (pick (closing (drop 14 c)) (Some T) None) g
 unfolding bind after told zulu closing pick need
 last T c g v h = go (drop 14 c)
   where
-    go : (w : List ℕ) → told (bind (zulu w 14) λ z. good (got (moment v) z.rest z.after)) ≡ after (pick (closing w) (Number T) Nothing) g
+    go : (w : List ℕ) → told (bind (zulu w 14) λ z. good (got (moment v) z.rest z.after)) ≡ after (pick (closing w) (Some T) None) g
     go [] = refl
     go (z ∷ w) = test (eqb z 0x5A) (λ t. rw (is_true (eqb z 0x5A) t) h) (λ t. rw (is_false (eqb z 0x5A) t))
 
@@ -70,7 +69,7 @@ time-in c =
     step 2 0 23 8 c _ _ _ λ h.
     step 2 0 59 10 c _ _ _ λ i.
     step 2 0 59 12 c _ _ _ λ s.
-    last ((h * 100 + i) * 100 + s) c _ _ (ap Number (omega arith)))
+    last ((h * 100 + i) * 100 + s) c _ _ (ap Some (omega arith)))
 
 -- ---- where a whole time ends
 
@@ -100,109 +99,73 @@ time_ends c =
     by_part 2 0 59 12 c _ (Ends c) none λ s _.
     last_ends c _
   where
-    none : {X : Type 0} (n p : ℕ) → X → Ends c (fault n p)
+    none : {X : Type 0} (n : Reason) (p : ℕ) → X → Ends c (fault n p)
     none n p q x e = clash e
 
 -- the rule: fifteen bytes, and a number
 module _ (c : List ℕ) where
-  pub rule_other : (length c ≡ 15 → ⊥) → time_rule c ≡ wrong bad_time tag
+  pub rule_other : (length c ≡ 15 → ⊥) → time_rule c ≡ wrong BadTime tag
   unfolding time_rule time_check ask same
   rule_other h = go (time_from year_digits c 0) (time_ends c)
     where
-      go : (r : Res (Got Moment)) → Ends c r → time_check r ≡ wrong bad_time tag
+      go : (r : Res (Got Moment)) → Ends c r → time_check r ≡ wrong BadTime tag
       go (fault n p) e = refl
       go (good x) e =
           let (q, l) = e x refl in
           let m : 15 < length c = omega (arith, h) in
           rw (q, drop-cons c 15 0 m)
 
-  pub rule_none : told (time_from year_digits c 0) ≡ Nothing → time_rule c ≡ wrong bad_time tag
+  pub rule_none : told (time_from year_digits c 0) ≡ None → time_rule c ≡ wrong BadTime tag
   unfolding time_rule time_check told
   rule_none = go (time_from year_digits c 0)
     where
-      go : (r : Res (Got Moment)) → told r ≡ Nothing → time_check r ≡ wrong bad_time tag
+      go : (r : Res (Got Moment)) → told r ≡ None → time_check r ≡ wrong BadTime tag
       go (fault n p) e = refl
       go (good x) e = no_number_lem (sym e)
 
-  pub rule_fine : {n : ℕ} → length c ≡ 15 → told (time_from year_digits c 0) ≡ Number n → time_rule c ≡ fine
+  pub rule_fine : {n : ℕ} → length c ≡ 15 → told (time_from year_digits c 0) ≡ Some n → time_rule c ≡ fine
   unfolding time_rule time_check ask same told
   rule_fine {n} l = go (time_from year_digits c 0) (time_ends c)
     where
-      go : (r : Res (Got Moment)) → Ends c r → told r ≡ Number n → time_check r ≡ fine
+      go : (r : Res (Got Moment)) → Ends c r → told r ≡ Some n → time_check r ≡ fine
       go (fault k p) h e = no_number_lem e
       go (good x) h e =
           let m : length c ≤ 15 = omega arith in
           rw ((h x refl).0, drop_of_length-le c {i = 15} m)
 
--- ---- step by step, as code goes
+-- ---- as code goes
 
-module _ (w : List ℕ) where
-  pub closing_end : length w ≤ 14 → false ≡ closing (drop 14 w)
-  unfolding closing
-  closing_end h = rw (drop_of_length-le w h)
-
-  pub closing-there : 14 < length w → eqb (get_or w 14 0) 0x5A ≡ closing (drop 14 w)
-  unfolding closing
-  closing-there h = rw (drop-cons w 14 0 h)
-
-module _ (h : Parsed) (f : ℕ → Parsed) {r : Parsed} (e : r ≡ h) where
-  pub after-number : (x : Parsed) {n : ℕ} → r ≡ Number n → x ≡ f n → x ≡ after h f
-  unfolding after
-  after-number x q g = rw (← e, q) g
-
-  pub after_nothing : r ≡ Nothing → Nothing ≡ after h f
-  unfolding after
-  after_nothing q = rw (← e, q)
-
-module _ (x y : Parsed) (t : Bool) {r : Bool} (e : r ≡ t) where
-  pub closed : (z : Parsed) → not r ≡ false → z ≡ x → z ≡ pick t x y
-  unfolding pick
-  closed z h q = rw (sym e ∙ not-false r h) q
-
-  pub left_open : not r ≡ true → y ≡ pick t x y
-  unfolding pick
-  left_open h = rw (sym e ∙ not-true r h)
-
--- the month's length by another name
-pub by_length : {r : Parsed} (k low h high i : ℕ) (c : List ℕ) → r ≡ part_at k low h i c → h ≡ high → r ≡ part_at k low high i c
-by_length k low h high i c e q = e ∙ ap (λ (m : ℕ). part_at k low m i c) q
-
-pub number_is : {m n : ℕ} → m ≡ n → Number m ≡ Number n
-number_is e = ap Number e
-
-pub ruleset steps = (after-number, after_nothing, closed, left_open, by_length, number_is)
-
-pub as_read : (x : Parsed) (c : List ℕ) → x ≡ time_in c → x ≡ told (time_from year_digits c 0)
+pub as_read : (x : Option ℕ) (c : List ℕ) → x ≡ time_in c → x ≡ told (time_from year_digits c 0)
 as_read x c e = e ∙ time-in c
 
 -- ---- the content of a record
 
 module _ (s w : List ℕ) (a z : ℕ) (cut : w ≡ slice a z s) where
-  pub other_length : (p : ℕ) → (length w ≡ 15 → ⊥) → Wrong bad_time p ≡ checked_at time_rule s p a z
+  pub other_length : (p : ℕ) → (length w ≡ 15 → ⊥) → refused BadTime p ≡ checked_at time_rule s p a z
   unfolding checked_at place_of
   other_length p h = rw (← cut, rule_other w h)
 
-  module _ {r : Parsed} (e : r ≡ told (time_from year_digits w 0)) where
-    pub no_time : (p : ℕ) → r ≡ Nothing → Wrong bad_time p ≡ checked_at time_rule s p a z
+  module _ {r : Option ℕ} (e : r ≡ told (time_from year_digits w 0)) where
+    pub no_time : (p : ℕ) (t : Bool) → t ≡ is_some r → t ≡ false → refused BadTime p ≡ checked_at time_rule s p a z
     unfolding checked_at place_of
-    no_time p q = rw (← cut, rule_none w (sym e ∙ q))
+    no_time p t d q = rw (← cut, rule_none w (sym e ∙ none_of r (sym d ∙ q)))
+      where
+        none_of : (x : Option ℕ) → is_some x ≡ false → x ≡ None
+        none_of None f = refl
+        none_of (Some n) f = never (cc)
 
-    pub right_time : (p : ℕ) {n : ℕ} → length w ≡ 15 → r ≡ Number n → Fine ≡ checked_at time_rule s p a z
+    pub right_time : (p : ℕ) (t : Bool) → length w ≡ 15 → t ≡ is_some r → t ≡ true → Ok tt ≡ checked_at time_rule s p a z
     unfolding checked_at
-    right_time p h q = rw (← cut, rule_fine w h (sym e ∙ q))
-
-    pub no_moment : r ≡ Nothing → moment 0 ≡ moment_of (slice a z s)
-    unfolding moment_of moment_in told
-    no_moment q = rw (← cut) (go (time_from year_digits w 0) (sym e ∙ q))
+    right_time p t h d q = some_of r (sym e) (sym d ∙ q)
       where
-        go : (x : Res (Got Moment)) → told x ≡ Nothing → moment 0 ≡ moment_in x
-        go (fault k p) f = refl
-        go (good x) f = no_number_lem (sym f)
+        some_of : (x : Option ℕ) → told (time_from year_digits w 0) ≡ x → is_some x ≡ true → Ok tt ≡ checked_at time_rule s p a z
+        some_of None f g = never (cc)
+        some_of (Some n) f g = rw (← cut, rule_fine w h f)
 
-    pub that_moment : {n : ℕ} → r ≡ Number n → moment n ≡ moment_of (slice a z s)
+    pub that_moment : {v : ℕ} → v ≡ unwrap_or r 0 → moment v ≡ moment_of (slice a z s)
     unfolding moment_of moment_in told
-    that_moment {n} q = rw (← cut) (go (time_from year_digits w 0) (sym e ∙ q))
+    that_moment {v} q = rw (q, e, ← cut) (go (time_from year_digits w 0))
       where
-        go : (x : Res (Got Moment)) → told x ≡ Number n → moment n ≡ moment_in x
-        go (fault k p) f = no_number_lem f
-        go (good x) f = let y : number_of x.value ≡ n = cc in rw (← y) (number_back x.value)
+        go : (x : Res (Got Moment)) → moment (unwrap_or (told x) 0) ≡ moment_in x
+        go (fault k p) = refl
+        go (good x) = number_back x.value

@@ -1,6 +1,5 @@
 -- `utf8::is_utf8`: the loop keeps that what is left is text just where all is.
 use mathlib.Core.Path.{refl}
-use Prim.Native.Nat.{◌-◌}
 use native.Mathlib.Omega.{arith}
 use Rattle.contents.specs.Text.{utf8}
 use Rattle.characters.specs.Laws.{text_end}

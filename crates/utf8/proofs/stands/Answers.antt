@@ -6,8 +6,8 @@ use Rattle.utf8.proofs.stands.Goals as goal
 pub returns-then-w-i : goal.returns-then-w-i
 returns-then-w-i c = search (rules, stands_end)
 
-pub returns-then-b-low : goal.returns-then-b-low
-returns-then-b-low c = search (rules, stands_low)
+pub returns-then-low-w : goal.returns-then-low-w
+returns-then-low-w c = search (rules, stands_high)
 
-pub returns : goal.returns
-returns c = search (rules, stands_high)
+pub returns-else-low-w : goal.returns-else-low-w
+returns-else-low-w c = search (rules, stands_low)

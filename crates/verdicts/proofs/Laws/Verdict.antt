@@ -5,16 +5,17 @@ use Rattle.std.proofs.Common.{sym, subst, inl, inr}
 use Rattle.std.proofs.Math.Bool.{true, false}
 use Rattle.std.proofs.Math.Option.{Option, none, some}
 use mathlib.Core.List.{List, [], ◌∷◌}
-use Rattle.terms.specs.Numbers.{valid, unreal_time, outside_period, stamp_bad, signer_out_at_stamp}
-use Rattle.terms.specs.Answer.{good, fault, every, pick}
+use Rattle.verdicts.specs.declared.Verdict.TheVariants.{Valid, OutsidePeriod, StampBad, SignerOutAtStamp}
+use Rattle.terms.specs.declared.Reason.{Reason}
+use Rattle.terms.specs.declared.Reason.TheVariants.{UnrealTime}
+use Rattle.terms.specs.Answer.{good, fault, every, pick, refused}
 use Rattle.terms.specs.Laws.Answer.{never, and_l, and_r, pick_yes, pick_no}
 use Rattle.layouts.specs.Layout.{Values, All}
 use Rattle.layouts.specs.Fields.{first}
 use Rattle.layouts.proofs.Laws.Fields.{None, First, Sought, first-sought, first_holds}
 use Rattle.verdicts.specs.Findings.{all_real}
-use Rattle.verdicts.specs.Verdict.{Step, or_else, first_failing, Facts, facts_of, stamped, Rulebook, signature_rules, seal_rules, judged, weigh}
+use Rattle.verdicts.specs.Verdict.{verdict_number, Step, or_else, first_failing, Facts, facts_of, stamped, Rulebook, signature_rules, seal_rules, judged, weigh}
 use Rattle.verdicts.specs.declared.Findings.{Findings}
-use Rattle.verdicts.specs.declared.Verdict.TheVariants.{Refused}
 
 -- ---- the first failing row
 
@@ -42,7 +43,7 @@ failing_holds {A} P ss passed x h k = go (first_failing ss passed x) (first-fail
 
 -- "A notice goes with 0 and 26 to 34"
 unfoldable pub takes_notice : ℕ → Bool
-takes_notice n = eqb n valid || (leb outside_period n && leb n signer_out_at_stamp)
+takes_notice n = eqb n (verdict_number Valid) || (leb (verdict_number OutsidePeriod) n && leb n (verdict_number SignerOutAtStamp))
 
 same_bool : Bool → Bool → Bool
 same_bool true b = b
@@ -69,9 +70,9 @@ module _ (f : Step Facts → Bool) where
   carried b x h = let a = rows_agree (b.passed ∷ b.steps) h in failing_holds (λ s. s.carries ≡ f s) b.steps b.passed x a.1 a.0
 
 -- the signature's table carries it so, and the seal's not at all
-pub signature-notice : (x : Facts) → (first_failing signature_rules.steps signature_rules.passed x).carries ≡ takes_notice (first_failing signature_rules.steps signature_rules.passed x).number
+pub signature-notice : (x : Facts) → (first_failing signature_rules.steps signature_rules.passed x).carries ≡ takes_notice (verdict_number (first_failing signature_rules.steps signature_rules.passed x).verdict)
 unfolding takes_notice same_bool every agrees
-signature-notice x = carried (λ s. takes_notice s.number) signature_rules x tt
+signature-notice x = carried (λ s. takes_notice (verdict_number s.verdict)) signature_rules x tt
 
 pub seal-notice : (x : Facts) → (first_failing seal_rules.steps seal_rules.passed x).carries ≡ false
 unfolding same_bool every agrees
@@ -113,34 +114,34 @@ module _ {A : Type 0} (k : Step A → Bool) where
 
 -- "32 to 34"
 unfoldable pub is_of_stamp : ℕ → Bool
-is_of_stamp n = leb stamp_bad n && leb n signer_out_at_stamp
+is_of_stamp n = leb (verdict_number StampBad) n && leb n (verdict_number SignerOutAtStamp)
 
 abbrev pub unstamped_steps : List (Step Facts)
-unstamped_steps = without (λ s. is_of_stamp s.number) signature_rules.steps
+unstamped_steps = without (λ s. is_of_stamp (verdict_number s.verdict)) signature_rules.steps
 
 another : {X : Type 0} → false ≡ true → X
 another e = never (cc)
 
 -- the answer is the first failing row of the table without those three, and has none of their numbers
 module _ (x : Facts) (h : stamped x ≡ false) where
-  stamp_rows_pass : All (λ s. is_of_stamp s.number ≡ true → s.fails x ≡ false) signature_rules.steps
+  stamp_rows_pass : All (λ s. is_of_stamp (verdict_number s.verdict) ≡ true → s.fails x ≡ false) signature_rules.steps
   unfolding is_of_stamp
   stamp_rows_pass =
       (another, (another, (another, (another, (another, (another, (another, (another, (another, (another, (λ e. rw h, (λ e. rw h, (λ e. rw h, tt)))))))))))))
 
   pub unstamped_answer : first_failing signature_rules.steps signature_rules.passed x ≡ first_failing unstamped_steps signature_rules.passed x
-  unstamped_answer = failing_without (λ s. is_of_stamp s.number) x signature_rules.steps signature_rules.passed stamp_rows_pass
+  unstamped_answer = failing_without (λ s. is_of_stamp (verdict_number s.verdict)) x signature_rules.steps signature_rules.passed stamp_rows_pass
 
-  pub unstamped_number : is_of_stamp (first_failing signature_rules.steps signature_rules.passed x).number ≡ false
+  pub unstamped_number : is_of_stamp (verdict_number (first_failing signature_rules.steps signature_rules.passed x).verdict) ≡ false
   unfolding is_of_stamp
   unstamped_number =
       rw unstamped_answer
-      (failing_holds (λ s. is_of_stamp s.number ≡ false) unstamped_steps signature_rules.passed x (none_left (λ s. is_of_stamp s.number) signature_rules.steps) refl)
+      (failing_holds (λ s. is_of_stamp (verdict_number s.verdict) ≡ false) unstamped_steps signature_rules.passed x (none_left (λ s. is_of_stamp (verdict_number s.verdict)) signature_rules.steps) refl)
 
 -- ---- what the verdict is, case by case
 
 module _ (b : Rulebook) where
-  pub weigh_refused : (n p : ℕ) (f : Findings) (original signer : List ℕ) → weigh b (fault n p) f original signer ≡ Refused n p
+  pub weigh_refused : (n : Reason) (p : ℕ) (f : Findings) (original signer : List ℕ) → weigh b (fault n p) f original signer ≡ refused n p
   unfolding weigh
   weigh_refused n p f original signer = refl
 
@@ -148,6 +149,6 @@ module _ (b : Rulebook) where
   unfolding weigh
   weigh-judged v f original signer h = pick_yes (all_real f) _ _ h
 
-  pub weigh-unreal : (v : Values b.layout) (f : Findings) (original signer : List ℕ) → T (not (all_real f)) → weigh b (good v) f original signer ≡ Refused unreal_time 0
+  pub weigh-unreal : (v : Values b.layout) (f : Findings) (original signer : List ℕ) → T (not (all_real f)) → weigh b (good v) f original signer ≡ refused UnrealTime 0
   unfolding weigh
   weigh-unreal v f original signer h = pick_no (all_real f) _ _ h

@@ -1,69 +1,61 @@
 -- Item, list, member and row call one another; what stands in an item is smaller than the item.
 use borrow.Author.Rules.{rules}
+use borrow.Author.Tests.{not-true, not-false}
 use Rattle.rows.specs.Size.{smaller, row_fewer, size-first, chain}
-use Rattle.walks.specs.Laws.{node_bad, item-steps, list_steps, member-steps, row-steps, many_on, row_first, row_next}
-use Prim.Native.Nat.{◌-◌}
+use Rattle.entries.specs.Laws.{handed}
+use Rattle.walks.specs.Laws.{item-steps, list_steps, member-steps, row-steps, many_on, row_first, row_next}
 use Rattle.walks.proofs.+item_list_member_row.Goals as goal
 
 pub item-returns-in-Leaf : goal.item-returns-in-Leaf
 item-returns-in-Leaf t c = search (rules, item-steps)
 
-pub item-returns-in_default : goal.item-returns-in_default
-item-returns-in_default t c = search (rules, item-steps)
+pub item-returns-in_err-inside-in-Node : goal.item-returns-in_err-inside-in-Node
+item-returns-in_err-inside-in-Node t c = search (rules, item-steps, c.in_err-inside-in-Node.was, handed c.from_residual.result c.in_err-inside-in-Node.field-0.0 c.from_residual.ensures)
 
-pub item-row-r-requires : goal.item-row-r-requires
-item-row-r-requires t c = search (rules, smaller)
+pub item-row-read-requires : goal.item-row-read-requires
+item-row-read-requires t c = search (rules, smaller)
 
-pub item-returns-in-Refused : goal.item-returns-in-Refused
-item-returns-in-Refused t c = search (rules, node_bad)
+pub item-returns-in_ok-inside-in-Node : goal.item-returns-in_ok-inside-in-Node
+item-returns-in_ok-inside-in-Node t c = search (rules, item-steps, c.in_ok-inside-in-Node.was)
 
-pub item-returns-in-Next : goal.item-returns-in-Next
-item-returns-in-Next t c = search (rules, item-steps)
+pub item-returns-in_err-inside-in-List : goal.item-returns-in_err-inside-in-List
+item-returns-in_err-inside-in-List t c = search (rules, item-steps, c.in_err-inside-in-List.was, handed c.from_residual-in_err-inside-in-List.result c.in_err-inside-in-List.field-0.0 c.from_residual-in_err-inside-in-List.ensures)
 
-pub item-returns-in_default-h : goal.item-returns-in_default-h
-item-returns-in_default-h t c = search (rules, item-steps)
+pub item-list-read-requires : goal.item-list-read-requires
+item-list-read-requires t c = search (rules, smaller)
 
-pub item-list-c-requires : goal.item-list-c-requires
-item-list-c-requires t c = search (rules, smaller)
+pub item-returns-in_err-count-in-List : goal.item-returns-in_err-count-in-List
+item-returns-in_err-count-in-List t c = search (rules, item-steps, c.in_ok-inside-in-List.was, c.in_err-count-in-List.was, handed c.from_residual-in_err-count-in-List.result c.in_err-count-in-List.field-0.0 c.from_residual-in_err-count-in-List.ensures)
 
-pub item-returns-in-Refused-c : goal.item-returns-in-Refused-c
-item-returns-in-Refused-c t c = search (rules, item-steps)
+pub item-returns-in_ok-count-in-List : goal.item-returns-in_ok-count-in-List
+item-returns-in_ok-count-in-List t c = search (rules, item-steps, c.in_ok-inside-in-List.was, c.in_ok-count-in-List.was)
 
-pub item-returns-in-Items : goal.item-returns-in-Items
-item-returns-in-Items t c = search (rules, item-steps)
+pub item-returns-in_err-inside-in-Wrap : goal.item-returns-in_err-inside-in-Wrap
+item-returns-in_err-inside-in-Wrap t c = search (rules, item-steps, c.in_err-inside-in-Wrap.was, handed c.from_residual-in_err-inside-in-Wrap.result c.in_err-inside-in-Wrap.field-0.0 c.from_residual-in_err-inside-in-Wrap.ensures)
 
-pub item-returns-in_default-h-2 : goal.item-returns-in_default-h-2
-item-returns-in_default-h-2 t c = search (rules, item-steps)
+pub item-item-requires : goal.item-item-requires
+item-item-requires t c = search (rules, smaller)
 
-pub item-item-r-requires : goal.item-item-r-requires
-item-item-r-requires t c = search (rules, smaller)
+pub item-returns-in_err-next-in-Wrap : goal.item-returns-in_err-next-in-Wrap
+item-returns-in_err-next-in-Wrap t c = search (rules, item-steps, c.in_ok-inside-in-Wrap.was, c.in_err-next-in-Wrap.was, handed c.from_residual-in_err-next-in-Wrap.result c.in_err-next-in-Wrap.field-0.0 c.from_residual-in_err-next-in-Wrap.ensures)
 
-pub item-returns-in_default-r : goal.item-returns-in_default-r
-item-returns-in_default-r t c = search (rules, item-steps)
+pub item-returns-in_ok-next-in-Wrap : goal.item-returns-in_ok-next-in-Wrap
+item-returns-in_ok-next-in-Wrap t c = search (rules, item-steps, c.in_ok-inside-in-Wrap.was, c.in_ok-next-in-Wrap.was)
 
-pub item-returns-in-Refused-c-2 : goal.item-returns-in-Refused-c-2
-item-returns-in-Refused-c-2 t c = search (rules, item-steps)
+pub list-returns-then-end-p : goal.list-returns-then-end-p
+list-returns-then-end-p t c = search (rules, list_steps, chain)
 
-pub item-returns-in-Next-c : goal.item-returns-in-Next-c
-item-returns-in-Next-c t c = search (rules, item-steps)
+pub list-returns-in_err-p : goal.list-returns-in_err-p
+list-returns-in_err-p t c = search (rules, list_steps, chain, c.in_err-p.was, handed c.from_residual.result c.in_err-p.field-0.0 c.from_residual.ensures)
 
-pub list-loop-p-init : goal.list-loop-p-init
-list-loop-p-init t c = (search rules, search rules, search rules)
+pub list-loop-k-preserved : goal.list-loop-k-preserved
+list-loop-k-preserved t c = (search rules, search (rules, chain, many_on, c.in_ok-p.was))
 
-pub list-returns-then-k-most : goal.list-returns-then-k-most
-list-returns-then-k-most t c = search (rules, list_steps)
-
-pub list-item-r-requires : goal.list-item-r-requires
-list-item-r-requires t c = search (rules, smaller)
-
-pub list-returns-in-Refused : goal.list-returns-in-Refused
-list-returns-in-Refused t c = search (rules, list_steps)
-
-pub list-loop-p-preserved : goal.list-loop-p-preserved
-list-loop-p-preserved t c = (search rules, search rules, search (rules, chain, many_on))
+pub list-returns-then-p-end : goal.list-returns-then-p-end
+list-returns-then-p-end t c = search (rules, list_steps, chain)
 
 pub list-returns : goal.list-returns
-list-returns t c = search (rules, list_steps)
+list-returns t c = search (rules, list_steps, chain)
 
 pub member-returns-in-Blank : goal.member-returns-in-Blank
 member-returns-in-Blank t c = search (rules, member-steps)
@@ -80,47 +72,47 @@ member-item-requires t c = search (rules, smaller)
 pub member-returns-in-Part : goal.member-returns-in-Part
 member-returns-in-Part t c = search (rules, member-steps)
 
-pub member-item-requires-then-begins : goal.member-item-requires-then-begins
-member-item-requires-then-begins t c = search (rules, smaller)
+pub member-returns-then-not-begins : goal.member-returns-then-not-begins
+member-returns-then-not-begins t c = search (rules, member-steps, not-true)
 
-pub member-returns-then-begins : goal.member-returns-then-begins
-member-returns-then-begins t c = search (rules, member-steps)
+pub member-item-requires-in-Maybe : goal.member-item-requires-in-Maybe
+member-item-requires-in-Maybe t c = search (rules, smaller)
 
-pub member-returns-in-Maybe : goal.member-returns-in-Maybe
-member-returns-in-Maybe t c = search (rules, member-steps)
+pub member-returns-else-not-begins : goal.member-returns-else-not-begins
+member-returns-else-not-begins t c = search (rules, member-steps, not-false)
 
-pub member-returns-then-begins-2 : goal.member-returns-then-begins-2
-member-returns-then-begins-2 t c = search (rules, member-steps)
+pub member-returns-then-not-begins-2 : goal.member-returns-then-not-begins-2
+member-returns-then-not-begins-2 t c = search (rules, member-steps, not-true)
 
-pub member-returns-in-Flag : goal.member-returns-in-Flag
-member-returns-in-Flag t c = search (rules, member-steps)
+pub member-returns-else-not-begins-2 : goal.member-returns-else-not-begins-2
+member-returns-else-not-begins-2 t c = search (rules, member-steps, not-false)
 
-pub member-returns-in_default : goal.member-returns-in_default
-member-returns-in_default t c = search (rules, member-steps)
+pub member-returns-in_err-value-in-Choice : goal.member-returns-in_err-value-in-Choice
+member-returns-in_err-value-in-Choice t c = search (rules, member-steps, c.in_err-value-in-Choice.was, handed c.from_residual.result c.in_err-value-in-Choice.field-0.0 c.from_residual.ensures)
 
 pub member-item-requires-then-is_content : goal.member-item-requires-then-is_content
 member-item-requires-then-is_content t c = search (rules, smaller)
 
 pub member-returns-then-is_content : goal.member-returns-then-is_content
-member-returns-then-is_content t c = search (rules, member-steps)
+member-returns-then-is_content t c = search (rules, member-steps, c.in_ok-value-in-Choice.was)
 
 pub member-item-requires-in-Choice : goal.member-item-requires-in-Choice
 member-item-requires-in-Choice t c = search (rules, smaller)
 
-pub member-returns-in-Choice : goal.member-returns-in-Choice
-member-returns-in-Choice t c = search (rules, member-steps)
+pub member-returns-else-is_content : goal.member-returns-else-is_content
+member-returns-else-is_content t c = search (rules, member-steps, c.in_ok-value-in-Choice.was)
 
-pub row-loop-k-init : goal.row-loop-k-init
-row-loop-k-init t c = (search rules, search rules, search rules, search (rules, size-first), search (rules, row_first))
+pub row-loop-m-init : goal.row-loop-m-init
+row-loop-m-init t c = (search rules, search rules, search (rules, size-first), search (rules, row_first))
 
-pub row-member-passed-requires : goal.row-member-passed-requires
-row-member-passed-requires t c = search (rules, smaller)
+pub row-member-requires : goal.row-member-requires
+row-member-requires t c = search (rules, smaller)
 
-pub row-returns-in-Refused : goal.row-returns-in-Refused
-row-returns-in-Refused t c = search (rules, row-steps)
+pub row-returns-in_err-p : goal.row-returns-in_err-p
+row-returns-in_err-p t c = search (rules, row-steps, c.in_err-p.was, handed c.from_residual.result c.in_err-p.field-0.0 c.from_residual.ensures)
 
-pub row-loop-k-preserved : goal.row-loop-k-preserved
-row-loop-k-preserved t c = (search rules, search rules, search rules, search (rules, row_fewer), search (rules, chain, row_next))
+pub row-loop-m-preserved : goal.row-loop-m-preserved
+row-loop-m-preserved t c = (search rules, search rules, search (rules, row_fewer), search (rules, chain, row_next, c.in_ok-p.was))
 
 pub row-returns : goal.row-returns
 row-returns t c = search (rules, row-steps)

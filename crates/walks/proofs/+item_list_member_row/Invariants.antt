@@ -20,14 +20,8 @@ decreases-member l = size_of l.m
 abbrev pub decreases-row : goal.decreases-row
 decreases-row l = suc (sizes (row_of l.x))
 
-abbrev pub invariant-list-loop-p : goal.invariant-list-loop-p
-invariant-list-loop-p l = (l.k ≤ l.most) × (length l.places ≡ length l.initial.places) × (list_walk (layout_of l.x) l.name l.most 0 l.s l.at l.end l.initial.places ≡ list_walk (layout_of l.x) l.name l.most l.k l.s l.p l.end l.places)
+abbrev pub invariant-list-loop-k : goal.invariant-list-loop-k
+invariant-list-loop-k l = (length l.places ≡ length l.initial.places) × (list_walk (layout_of l.x) l.name l.most 0 l.s l.at l.end l.initial.places ≡ list_walk (layout_of l.x) l.name l.most l.k l.s l.p l.end l.places)
 
-abbrev pub decreases-list-loop-p : goal.decreases-list-loop-p
-decreases-list-loop-p l = l.most - l.k
-
-abbrev pub invariant-row-loop-k : goal.invariant-row-loop-k
-invariant-row-loop-k l = (l.k ≤ row_width) × (length l.members ≡ row_width) × (length l.places ≡ length l.initial.places) × (sizes (from l.k l.members) ≤ sizes (members_of l.members)) × (row_walk (members_of l.members) l.index l.s l.at l.end l.initial.places ≡ row_walk (from l.k l.members) l.index l.s l.p l.end l.places)
-
-abbrev pub decreases-row-loop-k : goal.decreases-row-loop-k
-decreases-row-loop-k l = row_width - l.k
+abbrev pub invariant-row-loop-m : goal.invariant-row-loop-m
+invariant-row-loop-m l = (length l.m-items ≡ row_width) × (length l.places ≡ length l.initial.places) × (sizes (from l.m-index l.m-items) ≤ sizes (members_of l.m-items)) × (row_walk (members_of l.m-items) l.index l.s l.at l.end l.initial.places ≡ row_walk (from l.m-index l.m-items) l.index l.s l.p l.end l.places)

@@ -3,8 +3,8 @@ use Rattle.judges.specs.Laws.{weighs_judged, weighs_unreal}
 use borrow.Author.Rules.{rules}
 use Rattle.judges.proofs.signatures.judge.Goals as goal
 
-pub returns-in_default : goal.returns-in_default
-returns-in_default c = search (rules, weighs_unreal)
+pub returns-then-not-is_all_real : goal.returns-then-not-is_all_real
+returns-then-not-is_all_real c = search (rules, weighs_unreal)
 
 pub returns : goal.returns
 returns c = search (rules, weighs_judged)

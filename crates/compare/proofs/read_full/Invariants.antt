@@ -1,9 +1,0 @@
--- `compare::read_full`: each read stays inside the buffer and leaves less of it.
-use Rattle.std.proofs.Common.{◌-◌, ◌≤◌, length}
-use Rattle.compare.proofs.read_full.Given as goal
-
-abbrev pub invariant-loop-n : goal.invariant-loop-n
-invariant-loop-n g l = l.n ≤ length l.buf
-
-abbrev pub decreases-loop-n : goal.decreases-loop-n
-decreases-loop-n g l = length l.buf - l.n

@@ -1,7 +1,0 @@
--- `ennavizhil::ennavizhil_field_length`: the answer, packed.
-use Rattle.ennavizhil.specs.Laws.{second_is}
-use borrow.Author.Rules.{rules}
-use Rattle.ennavizhil.proofs.ennavizhil_field_length.Goals as goal
-
-pub returns : goal.returns
-returns c = search (rules, second_is)

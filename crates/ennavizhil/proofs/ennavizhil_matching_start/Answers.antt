@@ -1,7 +1,0 @@
--- `ennavizhil::ennavizhil_matching_start`: the answer, packed.
-use Rattle.ennavizhil.specs.Laws.{first_is}
-use borrow.Author.Rules.{rules}
-use Rattle.ennavizhil.proofs.ennavizhil_matching_start.Goals as goal
-
-pub returns : goal.returns
-returns c = search (rules, first_is)

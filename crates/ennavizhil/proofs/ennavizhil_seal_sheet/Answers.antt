@@ -1,7 +1,0 @@
--- `ennavizhil::ennavizhil_seal_sheet`: the answer, packed.
-use Rattle.ennavizhil.specs.Laws.{first_is}
-use borrow.Author.Rules.{rules}
-use Rattle.ennavizhil.proofs.ennavizhil_seal_sheet.Goals as goal
-
-pub returns : goal.returns
-returns c = search (rules, first_is)

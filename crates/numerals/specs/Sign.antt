@@ -1,6 +1,0 @@
--- The sign of a number. Assumes nothing.
-use Rattle.std.specs.Prelude.{Bool, true, false, ℤ, pos, negsuc}
-
-abbrev pub negative : ℤ → Bool
-negative (pos n) = false
-negative (negsuc n) = true

@@ -1,9 +1,0 @@
--- `show_record::filled`: what is left of the row grows shorter.
-use Rattle.std.proofs.Common.{◌≤◌, length}
-use Rattle.show_record.proofs.filled.Given as goal
-
-abbrev pub invariant-loop-n : goal.invariant-loop-n
-invariant-loop-n l = l.n ≤ length l.row
-
-abbrev pub decreases-loop-n : goal.decreases-loop-n
-decreases-loop-n l = l.n
