@@ -47,8 +47,8 @@ abbrev pub records_told : Told → ℕ
 records_told (gives n zs) = size (first zs)
 records_told (refuses n zs) = size (second zs)
 
--- the number of what may be absent: above what is found stands a number that `P` allows for it
-abbrev pub IsPacked : {A : Type 0} → (A → ℕ → Type 0) → Answer (Option A) → ℕ → Type 0
-IsPacked P (Ok (Some a)) r = (n : ℕ) × P a n × (r ≡ packed done n)
-IsPacked P (Ok None) r = r ≡ packed absent 0
-IsPacked P (Err e) r = r ≡ packed (reason_number e.reason) e.place
+-- the number of what may be absent
+abbrev pub packed_found : Answer (Option ℕ) → ℕ
+packed_found (Ok (Some n)) = packed done n
+packed_found (Ok None) = packed absent 0
+packed_found (Err e) = packed (reason_number e.reason) e.place

@@ -5,7 +5,7 @@ ghost use Rattle.std.specs.Prelude.{◌≡◌};
 ghost use Rattle.terms.specs.Numbers.{done, absent, reason_number};
 ghost use Rattle.layouts.specs.Whole.{told_outcome};
 ghost use Rattle.verdicts.specs.Verdict.{told_verdict};
-ghost use Rattle.packs.specs.Packed.{packed, packed_first, IsPacked};
+ghost use Rattle.packs.specs.Packed.{packed, packed_first, packed_found};
 
 use terms::Refusal;
 use verdicts::Judgement;
@@ -47,13 +47,12 @@ pub fn absent() -> u64
     pack(ABSENT, 0)
 }
 
-// What may be absent: of what is found, what stands above is the number that `above` makes of it.
-pub fn found<A, F: FnOnce(A) -> u64>(x: Result<Option<A>, Refusal>, above: F) -> u64
-    requires { F.IsAlwaysCallable above }
-    ensures { IsPacked (F.post above) x result }
+// What may be absent: with what stands above it where it is there.
+pub fn found(x: Result<Option<u64>, Refusal>) -> u64
+    ensures { result ≡ packed_found x }
 {
     match x {
-        Ok(Some(a)) => done(above(a)),
+        Ok(Some(above)) => done(above),
         Ok(None) => absent(),
         Err(refusal) => refused(refusal),
     }

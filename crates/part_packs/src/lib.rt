@@ -12,12 +12,12 @@ use terms::Refusal;
 pub fn start(x: Result<Option<Part>, Refusal>) -> u64
     ensures { result ≡ packed_first (told_part x) }
 {
-    packs::found(x, |p| p.start as u64)
+    packs::found(x.map(|found| found.map(|p| p.start as u64)))
 }
 
 // How long a part is.
 pub fn length(x: Result<Option<Part>, Refusal>) -> u64
     ensures { result ≡ packed_second (told_part x) }
 {
-    packs::found(x, |p| p.length as u64)
+    packs::found(x.map(|found| found.map(|p| p.length as u64)))
 }

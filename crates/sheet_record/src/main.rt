@@ -18,5 +18,10 @@ fn print(rt: &impl Print, record: &[u8]) -> io::Result<()> {
 
 // Reads the input and prints what comes of it.
 fn main(rt: HostRuntime) -> io::Result<ExitCode> {
-    streams::run(&rt, &mut rt.stdin(), |record| print(&rt, record))
+    let mut input = [0u8; 65536];
+    let Some(n) = streams::input(&rt, &mut rt.stdin(), &mut input)? else {
+        return Ok(ExitCode::FAILURE);
+    };
+    print(&rt, &input[..n])?;
+    Ok(ExitCode::SUCCESS)
 }

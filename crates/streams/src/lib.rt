@@ -1,15 +1,9 @@
-// A program's input: a reader's bytes, into a buffer, and what is answered to them.
+// A program's input: a reader's bytes, into a buffer.
 #![tactic(auto)]
 
-ghost use Rattle.std.specs.Prelude.{Ok};
-ghost use Rattle.std.specs.Fn.{FnOnceReturnsAt};
-ghost use Rattle.streams.specs.Input.{Filled, Taken, Answered};
+ghost use Rattle.streams.specs.Input.{Filled, Taken, Given};
 
 use std::io;
-use std::process::ExitCode;
-
-// The bytes of the largest record, and one more: what follows those changes no answer.
-const ROOM: usize = 65536;
 
 // Reads into a buffer until it is full, the input ends or a read fails, and answers how many bytes it read.
 #[tactic(auto, using(crate::proofs::Filling::read_more))]
@@ -29,24 +23,19 @@ pub fn fill<R: io::Read>(reader: &mut R, buf: &mut [u8]) -> io::Result<usize>
     Ok(n)
 }
 
-// Reads the input and hands it to what answers it, or says on standard error why it cannot be read.
-pub fn run<R: io::Read, F: FnOnce(&[u8]) -> io::Result<()>>(
+// Fills a buffer from a program's input: how many bytes were read, or none where it says on standard error why it cannot be read.
+pub fn input<R: io::Read>(
     rt: &impl Eprint,
     reader: &mut R,
-    answer: F,
-) -> io::Result<ExitCode>
-    requires { F.IsAlwaysCallable answer }
-    ensures { Answered (R.remaining reader.old) (R.remaining reader.new) ROOM result (λ bytes. FnOnceReturnsAt F.FnOnce answer bytes (Ok tt)) }
+    buf: &mut [u8],
+) -> io::Result<Option<usize>>
+    ensures { Given (R.remaining reader.old) (R.remaining reader.new) result buf.new }
 {
-    let mut input = [0u8; ROOM];
-    match fill(reader, &mut input) {
-        Ok(n) => {
-            answer(&input[..n])?;
-            Ok(ExitCode::SUCCESS)
-        }
+    match fill(reader, buf) {
+        Ok(n) => Ok(Some(n)),
         Err(e) => {
             eprintln!(rt; "read: {e}")?;
-            Ok(ExitCode::FAILURE)
+            Ok(None)
         }
     }
 }

@@ -11,7 +11,7 @@ use terms::Refusal;
 pub fn integer(x: Result<Option<i64>, Refusal>) -> u64
     ensures { result ≡ packed_number (told_number x) }
 {
-    packs::found(x, |_| 0)
+    packs::found(x.map(|found| found.map(|_| 0)))
 }
 
 // An integer, 0 where there is none.
@@ -29,12 +29,12 @@ pub fn value(x: Result<Option<i64>, Refusal>) -> i64
 pub fn critical(x: Result<Option<bool>, Refusal>) -> u64
     ensures { result ≡ packed_first (told_is x) }
 {
-    packs::found(x, |is| u64::from(is))
+    packs::found(x.map(|found| found.map(u64::from)))
 }
 
 // How many items a list has.
 pub fn items(x: Result<Option<usize>, Refusal>) -> u64
     ensures { result ≡ packed_first (told_items x) }
 {
-    packs::found(x, |n| n as u64)
+    packs::found(x.map(|found| found.map(|n| n as u64)))
 }
