@@ -1,6 +1,8 @@
 // A program's input: a reader's bytes, into a buffer.
 #![tactic(auto)]
 
+ghost use Rattle.std.specs.Prelude.{◌<◌, length};
+ghost use Rattle.terms.specs.Numbers.{largest_record};
 ghost use Rattle.streams.specs.Input.{Filled, Taken, Given};
 
 use std::io;
@@ -23,13 +25,15 @@ pub fn fill<R: io::Read>(reader: &mut R, buf: &mut [u8]) -> io::Result<usize>
     Ok(n)
 }
 
-// Fills a buffer from a program's input: how many bytes were read, or none where it says on standard error why it cannot be read.
+// Fills a buffer, which has room for the largest record and one byte more, from a program's input: how many bytes were read, or none where it
+// says on standard error why it cannot be read.
 pub fn input<R: io::Read>(
     rt: &impl Eprint,
     reader: &mut R,
-    buf: &mut [u8],
+    buf: &mut [u8; 65536],
 ) -> io::Result<Option<usize>>
-    ensures { Given (R.remaining reader.old) (R.remaining reader.new) result buf.new }
+    ensures room { largest_record < length buf.new }
+    ensures given { Given (R.remaining reader.old) (R.remaining reader.new) result buf.new }
 {
     match fill(reader, buf) {
         Ok(n) => Ok(Some(n)),
