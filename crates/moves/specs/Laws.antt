@@ -423,12 +423,12 @@ module _ (from to : Side) (i : Item) (m k n : ℕ) (s : List ℕ) (p e : ℕ) (d
   unfolding list_move move_many pick wrote_body advance put
   list_stop b h j u = rw (fewer h, ← j, u)
 
-  pub list_over : m ≤ k → k ≤ m → (p, m, o, d) ≡ wrote_body (list_move from to i m k n s p e) d o
+  pub list_over : m ≤ k → (p, k, o, d) ≡ wrote_body (list_move from to i m k n s p e) d o
   unfolding list_move move_many wrote_body advance put
-  list_over h l =
-      let z : m - k ≡ 0 = omega arith in
-      let y : m ≡ k = omega arith in
-      rw z (ap (λ (j : ℕ). (p, j, o, d)) y)
+  list_over h = let z : m - k ≡ 0 = omega arith in rw z
+
+  pub list_full : m ≤ k → k ≤ m → (p, m, o, d) ≡ wrote_body (list_move from to i m k n s p e) d o
+  list_full h l = let y : m ≡ k = omega arith in ap (λ (j : ℕ). (p, j, o, d)) y ∙ list_over h
 
 -- ---- an item that fits
 
@@ -488,7 +488,7 @@ pub ruleset content-steps = (content_leaf, content_node, content_list, content_w
 
 pub ruleset member-steps = (member_blank, member_known, member_leaf, member_part, member_flag, maybe_there, maybe_gone, choice_first, choice_second)
 
-pub ruleset list_steps = (list_stop, list_over)
+pub ruleset list_steps = (list_stop, list_full)
 
 -- what is called is smaller
 pub ruleset smaller = (below, node_holds, node_less, list_holds, list_less, wrap_holds, wrap_less, part_less, maybe_less, first_less, second_less, member_less, holds-stored, holds_measured, holds_content, measured_stored, measured_content, stored_content)

@@ -1,14 +1,12 @@
 -- What is stored by each function, with premises as code has them. Assumes nothing.
-use Rattle.std.specs.Prelude.{◌≡◌, ℕ, suc, ◌+◌, ◌-◌, ◌≤◌, ◌<◌, min, Bool, true, ◌&&◌, List, [], ◌∷◌, ◌++◌, length, get_or, set, take, drop, replicate, T, leb}
+use Rattle.std.specs.Prelude.{◌≡◌, ℕ, suc, ◌+◌, ◌-◌, ◌≤◌, ◌<◌, min, Bool, true, ◌&&◌, List, [], ◌∷◌, length, get_or, set, drop, replicate, T, leb}
 use Rattle.std.proofs.Math.Path.{refl}
-use Rattle.std.proofs.Common.{sym, ap, ◌∙◌, add-one, drop_of_length-le, drop-cons, length-drop, length-take-le}
-use Rattle.std.proofs.lemmas.List.{take-append-drop}
+use Rattle.std.proofs.Common.{sym, ap, ◌∙◌, add-one, drop_of_length-le, drop-cons}
 use native.Mathlib.Omega.{arith}
 use Rattle.std.proofs.Math.Dec.{leb→le, nleb→lt}
-use borrow.Rule.Slice.PartMut.{put_mid}
 use Rattle.terms.specs.Laws.Answer.{test, and_l, and_r}
 use Rattle.stores.specs.Store.{cap, bump, advance, put, puts, room_for}
-use Rattle.stores.specs.Laws.Store.{advance_stuck, advance-small, advance-full, put_past, put-behind, puts_then, puts_none}
+use Rattle.stores.specs.Laws.Store.{bump_on, advance_stuck, advance-small, advance-full, put_past, puts_then, puts_none}
 
 -- ---- positions
 
@@ -63,20 +61,20 @@ module _ (size o n : ℕ) (t : Bool) (e : t ≡ room_for size o n) (f : t ≡ tr
   unfolding room_for
   room_tests = rw (sym e ∙ f) tt
 
-  pub room-cap : size ≤ cap
-  room-cap = leb→le size cap (and_l (leb size cap) (leb (o + n) size) room_tests)
-
   pub room-size : o + n ≤ size
   room-size = leb→le (o + n) size (and_r (leb size cap) (leb (o + n) size) room_tests)
 
--- they stand at their place, and all other bytes are as they were
-pub copied_whole : (w d : List ℕ) (o : ℕ) (t : Bool) (y : List ℕ) → t ≡ room_for (length d) o (length w) → t ≡ true → y ≡ w → (o + length w, put_mid o (o + length w - o) d y) ≡ puts w d o
-unfolding puts
-copied_whole w d o t y e f g =
-    let c : length d ≤ cap = room-cap (length d) o (length w) t e f in
-    let h : o + length w ≤ length d = room-size (length d) o (length w) t e f in
-    let l : length (take o d) ≡ o = length-take-le o d (omega arith) in
-    let n : o + length w - o ≡ length w = omega arith in
-    let p : put (take o d ++ drop o d) (length (take o d)) w ≡ take o d ++ (w ++ drop (length w) (drop o d)) = put-behind (take o d) (drop o d) w (omega arith) (omega (arith, length-drop o d)) in
-    let q : put d o w ≡ take o d ++ (w ++ drop (length w) (drop o d)) = rw (take-append-drop o d, l) at p in
-    rw (q, g, n, advance-small o (length w) (omega arith)) refl
+  pub room-cap : o + n ≤ cap
+  room-cap = let h = leb→le size cap (and_l (leb size cap) (leb (o + n) size) room_tests) in omega (arith, room-size)
+
+module _ (w : List ℕ) (d₀ : List ℕ) (o : ℕ) (d : List ℕ) (k : ℕ) (i : puts w d₀ o ≡ puts (drop k w) d (o + k)) where
+  pub copy_on : k < length w → o + length w ≤ cap → puts w d₀ o ≡ puts (drop (k + 1) w) (set d (o + k) (get_or w k 0)) (o + (k + 1))
+  copy_on h l =
+      let e : o + (k + 1) ≡ bump (o + k) = let z : o + (k + 1) ≡ o + k + 1 = omega arith in z ∙ bump_on (o + k) (omega arith) in
+      copied_on w d₀ o d (o + k) k i (o + (k + 1)) (set d (o + k) (get_or w k 0)) h (put-there d (o + k) (get_or w k 0) (o + (k + 1)) (set d (o + k) (get_or w k 0)) e refl)
+
+  pub copy_end : length w ≤ k → (o + k, d) ≡ puts w d₀ o
+  copy_end h = copied_end w d₀ o d (o + k) k i h
+
+pub copy_first : (w d : List ℕ) (o : ℕ) → puts w d o ≡ puts (drop 0 w) d (o + 0)
+copy_first w d o = let z : o ≡ o + 0 = omega arith in ap (λ (p : ℕ). puts w d p) z
