@@ -12,6 +12,7 @@ use records::{Part, Record};
 use terms::{Field, LARGEST_RECORD, Refusal};
 
 // Where a field of a record lies, by its name and its index in a list; or why there is none.
+#[tactic(auto, using(crate::specs::Laws::find_refused))]
 pub fn find(s: &[u8], x: Record, f: Field, index: usize) -> Result<Option<Part>, Refusal>
     ensures { told_part result ≡ tell told_place (seek (layout_of x) (is_field f index) s.now) }
 {

@@ -1,9 +1,8 @@
 -- What the rules of octets, bits and the BOOLEAN answer of a window, by the tests that the code made. Assumes nothing.
-use Rattle.std.specs.Prelude.{◌≡◌, refl, nat_eq, Ok, Err, ℕ, zero, suc, ◌+◌, Bool, true, false, ◌&&◌, ◌||◌, List, [], ◌∷◌, length, take, drop, ltb, eqb}
-use Rattle.std.proofs.Common.{sym, ◌∙◌, arith, lt-ltb, ne_eqb}
+use Rattle.std.specs.Prelude.{◌≡◌, refl, Ok, Err, ℕ, suc, ◌+◌, Bool, true, false, ◌&&◌, ◌||◌, List, [], ◌∷◌, length, take, drop, ltb, eqb}
+use Rattle.std.proofs.Common.{sym, ◌∙◌, arith, lt-ltb}
 use Rattle.std.proofs.Math.Seq.{slice, drop-drop}
 use Rattle.terms.specs.Answer.{pick, never_empty, enough, same, Answer, refused}
-use Rattle.std.specs.Cmp.Lexicographic.{pointwise}
 use Rattle.terms.specs.Laws.Answer.{never}
 use Rattle.terms.specs.declared.Reason.{Reason}
 use Rattle.terms.specs.declared.Refusal.{Refusal}
@@ -40,18 +39,14 @@ module _ (t : Bool) (n : Reason) (c : Check) (p a : ℕ) (y : Answer (Unit {0}))
 
 -- bits: a first byte that is to be 00, and another after it
 bits_by : (w : List ℕ) (p a : ℕ)
-    → checked (ask (pointwise nat_eq (0x00 ∷ []) (take 1 w)) BadBits (ask (ltb 1 (length w)) NoBytes fine)) p a ≡ pick (same (take 1 w) (0x00 ∷ [])) (checked (octets_rule never_empty (drop 1 w)) p a) (refused BadBits p)
+    → checked (ask (same (take 1 w) (0x00 ∷ [])) BadBits (ask (ltb 1 (length w)) NoBytes fine)) p a ≡ pick (same (take 1 w) (0x00 ∷ [])) (checked (octets_rule never_empty (drop 1 w)) p a) (refused BadBits p)
 unfolding octets_rule enough same ask pick place_of
 bits_by [] p a = refl
-bits_by (b ∷ w) p a = rw (zero_first b, after w) (first (eqb b 0x00) _)
+bits_by (b ∷ w) p a = rw (after w) (first (eqb b 0x00) _)
   where
     first : (t : Bool) (k : Check) → checked (ask (t && true) BadBits k) p a ≡ pick (t && true) (checked k p a) (refused BadBits p)
     first true k = refl
     first false k = refl
-
-    zero_first : (x : ℕ) → eqb 0 x ≡ eqb x 0
-    zero_first zero = refl
-    zero_first (suc x) = ne_eqb 0 (suc x) (λ e. omega arith) ∙ sym (ne_eqb (suc x) 0 (λ e. omega arith))
 
     after : (x : List ℕ) → ltb 1 (suc (length x)) ≡ enough never_empty x
     after [] = refl
@@ -67,6 +62,6 @@ module _ (s w : List ℕ) (p a z : ℕ) (win : w ≡ slice a z s) (y : Answer (U
   unfolding checked_at boolean_rule
   boolean-rule t g h = rw (← win, ← g) (h a)
 
-  pub bits_rule : (t : Bool) → t ≡ pointwise nat_eq (0x00 ∷ []) (take 1 w) → ((k : ℕ) → y ≡ checked (ask t BadBits (ask (ltb 1 (length w)) NoBytes fine)) p k) → y ≡ behind_at bit_string.front (octets_rule never_empty) s p a z
+  pub bits_rule : (t : Bool) → t ≡ same (take 1 w) (0x00 ∷ []) → ((k : ℕ) → y ≡ checked (ask t BadBits (ask (ltb 1 (length w)) NoBytes fine)) p k) → y ≡ behind_at bit_string.front (octets_rule never_empty) s p a z
   unfolding behind_at checked_at
   bits_rule t e h = rw (← drop-drop 1 a (take z s), ← win) (h (a + 1) ∙ rw e (bits_by w p (a + 1)))

@@ -1,8 +1,8 @@
 // The rules of octets, bits and the BOOLEAN: an item's content is the window from `a` to `z` of the slice, its tag stands at `at`.
 #![tactic(auto)]
 
-ghost use Rattle.std.specs.Prelude.{◌≡◌, ℕ};
-ghost use Rattle.terms.specs.Answer.{never_empty};
+ghost use Rattle.std.specs.Prelude.{◌≡◌, ℕ, [], ◌∷◌, take};
+ghost use Rattle.terms.specs.Answer.{never_empty, same};
 ghost use Rattle.contents.specs.Rules.{octets_rule, boolean_rule};
 ghost use Rattle.contents.specs.Content.{fine, ask as asked};
 ghost use Rattle.contents.specs.Leaves.{bit_string};
@@ -41,13 +41,24 @@ pub fn boolean(s: &[u8], at: usize, a: usize, z: usize) -> Result<(), Refusal>
     ask(windows::is_same(w, b"\xFF"), Reason::BadBoolean, at)
 }
 
+// Whether the first byte of a window is 00.
+#[tactic(auto, unfolding(terms::specs::Answer::same))]
+fn begins_with_00(w: &[u8]) -> bool
+    ensures { result ≡ same (take 1 w.now) (0x00 ∷ []) }
+{
+    match w {
+        [] => false,
+        [first, ..] => *first == 0x00,
+    }
+}
+
 // A BIT STRING: 12 if it is empty or its first byte is not 00, then 14 if nothing comes after that byte.
 pub fn bits(s: &[u8], at: usize, a: usize, z: usize) -> Result<(), Refusal>
     ensures { result ≡ behind_at bit_string.front (octets_rule never_empty) s.now at a z }
 {
     let w = windows::window(s, a, z);
     ask_two(
-        w.starts_with(b"\x00"),
+        begins_with_00(w),
         Reason::BadBits,
         1 < w.len(),
         Reason::NoBytes,

@@ -21,7 +21,7 @@ use Rattle.tags.specs.declared.Tag.{Tag}
 use Rattle.tags.specs.declared.Tag.TheVariants as tag
 use Rattle.tags.specs.Tag.{tag_byte}
 use Rattle.contents.specs.Leaves.{Leaf, only}
-use Rattle.layouts.specs.Layout.{Item, leaf, list, Members, Member as Part, tag_of}
+use Rattle.layouts.specs.Layout.{Item, leaf, list, Members, tag_of}
 use Rattle.layouts.specs.Scan.{then_seen, then_step, leaf_at, scan_many, scan, record_scan}
 use Rattle.layouts.specs.Whole.{sequence}
 use Rattle.layouts.proofs.Laws.Scan.{passed}

@@ -3,8 +3,7 @@
 use Rattle.std.specs.Prelude.{ℕ, ◌-◌, List, Ok}
 use Rattle.terms.specs.declared.Field.{Field}
 use Rattle.terms.specs.Answer.{Answer}
-use Rattle.contents.specs.Leaves.{Leaf}
-use Rattle.layouts.specs.Layout.{Item, leaf, Members, Member as Part, known, maybe, flag}
+use Rattle.layouts.specs.Layout.{Item, leaf, Members, known, maybe, flag}
 use Rattle.layouts.specs.Scan.{scan, scans, scan_part, record_scan}
 use Rattle.layouts.specs.Marks.{tally, many_marks, marks, marks_all, marks_part, record_marks}
 use Rattle.primitives.specs.Primitive.{leaf_of, known_of}

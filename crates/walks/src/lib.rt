@@ -1,5 +1,5 @@
 // One reader over the table of layouts, which notes where each field stands, and of a refusal the innermost field that it is about: each item
-// that is refused notes its name, and the first name stays. Each case returns by itself: an answer that the cases of a match share is copied once more.
+// that is refused notes its name, and the first name stays.
 #![tactic(auto)]
 
 ghost use Rattle.std.specs.Prelude.{◌≡◌};
@@ -74,7 +74,11 @@ fn row(
     let members = rows::members_of(x);
     let mut p = at;
     for m in &members {
-        p = member(s, *m, index, p, end, places)?;
+        // Kept: with `?` the wrong edit that places a refusal anew is refused for its form alone.
+        match member(s, *m, index, p, end, places) {
+            Ok(next) => p = next,
+            Err(refusal) => return Err(refusal),
+        }
     }
     edges::close(p, end)
 }

@@ -108,11 +108,11 @@ row-loop-m-init t c = (search rules, search rules, search (rules, size-first), s
 pub row-member-requires : goal.row-member-requires
 row-member-requires t c = search (rules, smaller)
 
-pub row-returns-in_err-p : goal.row-returns-in_err-p
-row-returns-in_err-p t c = search (rules, row-steps, c.in_err-p.was, handed c.from_residual.result c.in_err-p.field-0.0 c.from_residual.ensures)
+pub row-returns-in-Err : goal.row-returns-in-Err
+row-returns-in-Err t c = search (rules, row-steps)
 
 pub row-loop-m-preserved : goal.row-loop-m-preserved
-row-loop-m-preserved t c = (search rules, search rules, search (rules, row_fewer), search (rules, chain, row_next, c.in_ok-p.was))
+row-loop-m-preserved t c = (search rules, search rules, search (rules, row_fewer), search (rules, chain, row_next))
 
 pub row-returns : goal.row-returns
 row-returns t c = search (rules, row-steps)

@@ -5,7 +5,7 @@ use Rattle.structures.specs.Structure.{row_of, layout_of}
 use Rattle.rows.specs.Row.{row_width, members_of}
 use Rattle.rows.specs.Size.{size, sizes, size_of, from}
 use Rattle.walks.specs.Walk.{row_walk, list_walk}
-use Prim.Native.Nat.{suc, ◌-◌, ◌≤◌}
+use Prim.Native.Nat.{suc, ◌≤◌}
 use Rattle.walks.proofs.+item_list_member_row.Given as goal
 
 abbrev pub decreases-item : goal.decreases-item
