@@ -98,11 +98,13 @@ impl<W: Write> Screen<'_, W> {
 
     // Prints a character: as it is, a quote or a backslash after a backslash, and any other by its number.
     fn character(&mut self, c: char) -> io::Result<()> {
-        match c {
-            '"' | '\\' => write!(self.out, "\\{c}"),
-            _ if is_shown(c) => write!(self.out, "{c}"),
-            _ => write!(self.out, "\\u{{{:x}}}", u32::from(c)),
+        if !is_shown(c) {
+            return write!(self.out, "\\u{{{:x}}}", u32::from(c));
         }
+        if c == '"' || c == '\\' {
+            self.out.write_all(b"\\")?;
+        }
+        self.out.write_all(c.encode_utf8(&mut [0u8; 4]).as_bytes())
     }
 
     // Prints a time as date and clock.
