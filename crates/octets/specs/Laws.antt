@@ -1,8 +1,9 @@
 -- What the rules of octets, bits and the BOOLEAN answer of a window, by the tests that the code made. Assumes nothing.
-use Rattle.std.specs.Prelude.{◌≡◌, refl, Ok, Err, ℕ, suc, ◌+◌, Bool, true, false, ◌&&◌, ◌||◌, List, [], ◌∷◌, length, take, drop, ltb, eqb}
-use Rattle.std.proofs.Common.{sym, ◌∙◌, arith, lt-ltb}
+use Rattle.std.specs.Prelude.{◌≡◌, refl, nat_eq, Ok, Err, ℕ, zero, suc, ◌+◌, Bool, true, false, ◌&&◌, ◌||◌, List, [], ◌∷◌, length, take, drop, ltb, eqb}
+use Rattle.std.proofs.Common.{sym, ap, ◌∙◌, arith, lt-ltb, ne_eqb}
 use Rattle.std.proofs.Math.Seq.{slice, drop-drop}
 use Rattle.terms.specs.Answer.{pick, never_empty, enough, same, Answer, refused}
+use Rattle.std.specs.Cmp.Lexicographic.{pointwise}
 use Rattle.terms.specs.Laws.Answer.{never}
 use Rattle.terms.specs.declared.Reason.{Reason}
 use Rattle.terms.specs.declared.Refusal.{Refusal}
@@ -38,11 +39,11 @@ module _ (t : Bool) (n : Reason) (c : Check) (p a : ℕ) (y : Answer (Unit {0}))
       go false f = never (cc)
 
 -- bits: a first byte that is to be 00, and another after it
-bits_by : (w : List ℕ) (p a : ℕ)
+first_by : (w : List ℕ) (p a : ℕ)
     → checked (ask (same (take 1 w) (0x00 ∷ [])) BadBits (ask (ltb 1 (length w)) NoBytes fine)) p a ≡ pick (same (take 1 w) (0x00 ∷ [])) (checked (octets_rule never_empty (drop 1 w)) p a) (refused BadBits p)
 unfolding octets_rule enough same ask pick place_of
-bits_by [] p a = refl
-bits_by (b ∷ w) p a = rw (after w) (first (eqb b 0x00) _)
+first_by [] p a = refl
+first_by (b ∷ w) p a = rw (after w) (first (eqb b 0x00) _)
   where
     first : (t : Bool) (k : Check) → checked (ask (t && true) BadBits k) p a ≡ pick (t && true) (checked k p a) (refused BadBits p)
     first true k = refl
@@ -51,6 +52,21 @@ bits_by (b ∷ w) p a = rw (after w) (first (eqb b 0x00) _)
     after : (x : List ℕ) → ltb 1 (suc (length x)) ≡ enough never_empty x
     after [] = refl
     after (y ∷ x) = lt-ltb 1 (suc (suc (length x))) (omega arith)
+
+-- whether a window's first byte is 00, and whether the window begins with 00, is one question
+begins_by : (w : List ℕ) → pointwise nat_eq (0x00 ∷ []) (take 1 w) ≡ same (take 1 w) (0x00 ∷ [])
+unfolding same
+begins_by [] = refl
+begins_by (b ∷ w) = ap (λ (t : Bool). t && true) (zero_first b)
+  where
+    zero_first : (x : ℕ) → eqb 0 x ≡ eqb x 0
+    zero_first zero = refl
+    zero_first (suc x) = ne_eqb 0 (suc x) (λ e. omega arith) ∙ sym (ne_eqb (suc x) 0 (λ e. omega arith))
+
+-- the same, by what the window begins with
+bits_by : (w : List ℕ) (p a : ℕ)
+    → checked (ask (pointwise nat_eq (0x00 ∷ []) (take 1 w)) BadBits (ask (ltb 1 (length w)) NoBytes fine)) p a ≡ pick (same (take 1 w) (0x00 ∷ [])) (checked (octets_rule never_empty (drop 1 w)) p a) (refused BadBits p)
+bits_by w p a = rw (begins_by w) (first_by w p a)
 
 -- `y` is what was answered of the window `w`
 module _ (s w : List ℕ) (p a z : ℕ) (win : w ≡ slice a z s) (y : Answer (Unit {0})) where
@@ -62,6 +78,11 @@ module _ (s w : List ℕ) (p a z : ℕ) (win : w ≡ slice a z s) (y : Answer (U
   unfolding checked_at boolean_rule
   boolean-rule t g h = rw (← win, ← g) (h a)
 
-  pub bits_rule : (t : Bool) → t ≡ same (take 1 w) (0x00 ∷ []) → ((k : ℕ) → y ≡ checked (ask t BadBits (ask (ltb 1 (length w)) NoBytes fine)) p k) → y ≡ behind_at bit_string.front (octets_rule never_empty) s p a z
+  -- bits, by what the window begins with
+  pub bits_rule : (t : Bool) → t ≡ pointwise nat_eq (0x00 ∷ []) (take 1 w) → ((k : ℕ) → y ≡ checked (ask t BadBits (ask (ltb 1 (length w)) NoBytes fine)) p k) → y ≡ behind_at bit_string.front (octets_rule never_empty) s p a z
   unfolding behind_at checked_at
   bits_rule t e h = rw (← drop-drop 1 a (take z s), ← win) (h (a + 1) ∙ rw e (bits_by w p (a + 1)))
+
+  -- bits, by the window's first byte
+  pub bits_first : (t : Bool) → t ≡ same (take 1 w) (0x00 ∷ []) → ((k : ℕ) → y ≡ checked (ask t BadBits (ask (ltb 1 (length w)) NoBytes fine)) p k) → y ≡ behind_at bit_string.front (octets_rule never_empty) s p a z
+  bits_first t e = bits_rule t (e ∙ sym (begins_by w))

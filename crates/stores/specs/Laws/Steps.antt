@@ -64,8 +64,11 @@ module _ (size o n : ℕ) (t : Bool) (e : t ≡ room_for size o n) (f : t ≡ tr
   pub room-size : o + n ≤ size
   room-size = leb→le (o + n) size (and_r (leb size cap) (leb (o + n) size) room_tests)
 
-  pub room-cap : o + n ≤ cap
-  room-cap = let h = leb→le size cap (and_l (leb size cap) (leb (o + n) size) room_tests) in omega (arith, room-size)
+  pub room-cap : size ≤ cap
+  room-cap = leb→le size cap (and_l (leb size cap) (leb (o + n) size) room_tests)
+
+  pub room-end : o + n ≤ cap
+  room-end = omega (arith, room-cap, room-size)
 
 module _ (w : List ℕ) (d₀ : List ℕ) (o : ℕ) (d : List ℕ) (k : ℕ) (i : puts w d₀ o ≡ puts (drop k w) d (o + k)) where
   pub copy_on : k < length w → o + length w ≤ cap → puts w d₀ o ≡ puts (drop (k + 1) w) (set d (o + k) (get_or w k 0)) (o + (k + 1))
